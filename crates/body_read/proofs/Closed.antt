@@ -29,8 +29,8 @@ use Rattle.arena_read.specs.declared.module_reader.ModuleReader.{ModuleReader}
 use Rattle.body_ahead.specs.Ahead.{AreCounts}
 use Rattle.body_records.specs.declared.begun.Begun.{Begun}
 use Rattle.body_records.specs.Begun.{Follows, Has, Means, block_called, due_view}
+use Rattle.body_records.proofs.Parametered.{texts_sound}
 use Rattle.body_read.specs.Whole.{Closes, IsClosed, IsRead, IsWhole, KeepsCounts, is_next}
-use Rattle.body_read.proofs.Started.{sound_of}
 use Rattle.body_read.proofs.Told.{told_so}
 
 next_due : (d : bodies.BodyDue) → is_next d ≡ true → d ≡ bodies.NextBlock
@@ -115,7 +115,7 @@ module _ (x : the_texts.Texts) (k : Numbering) (count : ℕ) (inside : Records) 
   labels_are : h.s.due ≡ bodies.NextBlock → ((labels (texts_of x) k count inside).values ≡ h.s.parameters ++ results_of h.s.blocks) × ((labels (texts_of x) k count inside).blocks ≡ map (λ (c : m.Block). c.name) h.s.blocks)
   labels_are due =
       let all = labels (texts_of x) k count inside in
-      all_read (texts_of x) k count (sound_of x) all all.values all.blocks (at_first first.reader.at) h.s inside (first_ahead (texts_of x) k count first.reader.at inside) (h.same ∙ ap (closed_at h.s) due)
+      all_read (texts_of x) k count (texts_sound x) all all.values all.blocks (at_first first.reader.at) h.s inside (first_ahead (texts_of x) k count first.reader.at inside) (h.same ∙ ap (closed_at h.s) due)
 
   -- what was read is the whole body, or something is due
   pub closing : (result : Result the_body.Body BitcodeFault) → KeepsCounts first new → AreCounts first.locals (labels (texts_of x) k count inside) → first.locals.blocks < 2 ^ 32 → Closes b new.reader.at result

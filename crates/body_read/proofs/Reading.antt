@@ -24,8 +24,9 @@ use Rattle.operand_read.specs.Found.{Always}
 use Rattle.body_ahead.specs.Ahead.{AreCounts}
 use Rattle.body_records.specs.declared.begun.Begun.{Begun}
 use Rattle.body_records.specs.Begun.{Follows, Has, IsBody, Means, Passes, StartsEmpty}
+use Rattle.body_records.proofs.Parametered.{texts_sound}
 use Rattle.body_read.specs.Whole.{AreCounted, IsRead, IsRefused, KeepsCounts, NumbersOutside, numbering_in}
-use Rattle.body_read.proofs.Started.{declared_on, empty_follows, empty_has, empty_means, numbers_on, sound_of}
+use Rattle.body_read.proofs.Started.{declared_on, empty_follows, empty_has, empty_means, numbers_on}
 use Rattle.body_read.proofs.Told.{misplaced_so, step_refused}
 
 -- ---- what is kept whatever is read
@@ -173,7 +174,7 @@ module _ (x : the_texts.Texts) (k : Numbering) (count : ℕ) (inside : Records) 
 
     pub step_counted : AreCounted x q h.s code h.operands
     step_counted = λ o not is end line unbroken name named.
-        (value_ahead (texts_of x) k count (sound_of x) all all.values all.blocks h.s code h.operands h.behind o name not is end line h.ahead unbroken named).1
+        (value_ahead (texts_of x) k count (texts_sound x) all all.values all.blocks h.s code h.operands h.behind o name not is end line h.ahead unbroken named).1
 
     -- the record was read
     pub step_goes : (new : ModuleReader) (after : Begun) (done : Unit {0}) → Answers {B = Unit {0}} (λ done u. IsBody q count now new b after h.s u) (with_record (texts_of x) q count h.s code h.operands) (Ok done) → IsReading new after
@@ -185,7 +186,7 @@ module _ (x : the_texts.Texts) (k : Numbering) (count : ℕ) (inside : Records) 
           s = u;
           before = subst (λ l. IsBefore l h.behind (ended ∷ others)) (sym g.passes.left) h.before;
           same = h.same ∙ ap (λ (o : Answer bodies.Begun). o >>= λ v. body_from (texts_of x) q count v h.behind) is;
-          ahead = record_step (texts_of x) k count (sound_of x) all all.values all.blocks h.s u code h.operands h.behind h.ahead is;
+          ahead = record_step (texts_of x) k count (texts_sound x) all all.values all.blocks h.s u code h.operands h.behind h.ahead is;
           follows = g.follows;
           place = g.passes.at ∙ (h.at ∙ sym g.at);
           keeps = keeps_on first now new now.reader h.keeps g.passes;

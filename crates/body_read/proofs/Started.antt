@@ -9,11 +9,6 @@ use Rattle.module_arena.specs.Mentions.{block_results, result_of}
 use Rattle.module_arena.specs.View.{block_view, constants_of, inst_view, local_view}
 use Rattle.record_table.specs.Bodies.{at_first}
 use Rattle.record_table.specs.Fields.{Numbering}
-use Rattle.body_labels.proofs.Sound.{inline_sound, table_sound}
-use Rattle.body_labels.specs.Laws.{HasSoundLabels}
-use Rattle.record_read.specs.declared.texts.Texts as the_texts
-use Rattle.record_read.specs.declared.texts.Texts.TheVariants.{Inline, Table}
-use Rattle.record_read.specs.Fields.{texts_of}
 use Rattle.arena_read.specs.declared.counts.GlobalCounts.{GlobalCounts}
 use Rattle.arena_read.specs.declared.counts.LocalCounts.{LocalCounts}
 use Rattle.arena_read.specs.declared.module_reader.ModuleReader.{ModuleReader}
@@ -48,10 +43,6 @@ pub declared_on : (a b : ModuleReader) (k : Numbering) → Grows a.growing b.gro
 declared_on a b k grows globals h =
     λ index lt.
     subst (λ (c : GlobalCounts). IsGlobal b.growing.arena (global_of c index) (get_or k.globals index [])) (sym globals) (still_declared a (record a { growing = b.growing }) k (mid_goes a b grows) h index lt)
-
-pub sound_of : (x : the_texts.Texts) → HasSoundLabels (texts_of x)
-sound_of Inline = inline_sound
-sound_of (Table table) = table_sound table
 
 -- ---- nothing was read
 

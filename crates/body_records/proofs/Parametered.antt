@@ -22,7 +22,7 @@ use Rattle.body_records.specs.Begun.{Follows, IsBody}
 use Rattle.body_records.proofs.Closing.{told_low, told_unbroken, vain_both}
 use Rattle.body_records.proofs.Blocked.{passes_here, tame_first}
 
-texts_sound : (x : the_texts.Texts) → HasSoundLabels (texts_of x)
+pub texts_sound : (x : the_texts.Texts) → HasSoundLabels (texts_of x)
 texts_sound Inline = inline_sound
 texts_sound (Table table) = table_sound table
 
