@@ -1,5 +1,5 @@
 -- A name that is missing: a rule up to 4 is broken, or it passes the end of the table.
-use Rattle.std.proofs.Common.{◌≡◌, ◌⊎◌, ℕ, zero, suc, Bool, true, false, cond, List, [], ◌∷◌, Option, Some, None, inl, inr, refl, sym, ap, subst, ◌∙◌, arith}
+use Rattle.std.proofs.Common.{◌≡◌, ◌⊎◌, ℕ, zero, suc, Bool, true, false, cond, List, [], ◌∷◌, Some, None, inl, inr, refl, sym, ap, subst, ◌∙◌, arith}
 use Rattle.std.proofs.Common.{nat_lt, length, get_or, take, drop}
 use Rattle.std.proofs.lemmas.Bool.{false≢true}
 use Rattle.ir_tables.specs.declared.opcode.Opcode.{Opcode}
@@ -18,15 +18,11 @@ use Rattle.record_read.specs.Fields.{texts_of}
 use Rattle.record_read.specs.Reader.{IsBroken, IsBrokenBy}
 use Rattle.call_read.specs.Calls.{name_behind}
 use Rattle.body_labels.proofs.Lasting.{call_named_keeps, named_keeps}
+use Rattle.ending_read.proofs.Parts.{asked_stopped}
 use Rattle.body_names.specs.Called.{beyond_table}
 use Rattle.body_names.proofs.Tame.{any_lasts, label_low, low_broken, low_lasts, tame_label}
 
 -- ---- a name in front
-
--- what stops stays so, whatever is asked of it
-still_stopped : (rule : ℕ) (b : Bool) (broken : Option ℕ) → ask rule b (stopped broken) ≡ stopped broken
-still_stopped rule true broken = refl
-still_stopped rule false broken = refl
 
 -- of a text it is asked whether it is within the table, and whether it is a name
 asked_within : (b : Bool) (rest : List ℕ) → IsBroken (ask 4 b (going rest None)) → IsBrokenBy 4 (ask 4 b (going rest None))
@@ -57,7 +53,7 @@ missing_label Inline own operands h = inl (low_broken ((label (texts_of Inline) 
 missing_label (Table table) own [] h = inl (omega arith)
 missing_label (Table table) own (zero ∷ rest) h = absurd (false≢true h)
 missing_label (Table table) own (suc size ∷ []) h =
-    inl (subst (IsBrokenBy 4) (sym (ap (ask 4 (is_name (text_at table 0 size))) (still_stopped 8 (is_within table 0 size) (Some 1)) ∙ still_stopped 4 (is_name (text_at table 0 size)) (Some 1))) one)
+    inl (subst (IsBrokenBy 4) (sym (ap (ask 4 (is_name (text_at table 0 size))) (asked_stopped 8 (is_within table 0 size) (Some 1)) ∙ asked_stopped 4 (is_name (text_at table 0 size)) (Some 1))) one)
   where
     one : IsBrokenBy 4 (stopped (Some 1))
     one = omega arith

@@ -76,7 +76,7 @@ by_one : (k : Numbering) (w : Walk) → by_number k 1 w ≡ condition k w
 unfolding either_by
 by_one k w = refl
 
-asked_stopped : (rule : ℕ) (b : Bool) (broken : Option ℕ) → ask rule b (stopped broken) ≡ stopped broken
+pub asked_stopped : (rule : ℕ) (b : Bool) (broken : Option ℕ) → ask rule b (stopped broken) ≡ stopped broken
 asked_stopped rule true broken = refl
 asked_stopped rule false broken = refl
 
