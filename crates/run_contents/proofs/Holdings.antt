@@ -1,5 +1,5 @@
 -- What a variable holds at first is what the definition of opening stores of its symbol.
-use Rattle.std.proofs.Common.{◌≡◌, ℕ, zero, suc, ◌+◌, List, [], ◌∷◌, ◌++◌, map, zip, flat_map, option_to_list, Bool, true, false, not, ◌&&◌, ◌||◌, Option, Some, None, refl, sym, ap, ◌∙◌, subst, true≢false, append-nil, arith, unwrap_or}
+use Rattle.std.proofs.Common.{◌≡◌, ℕ, zero, suc, ◌+◌, List, [], ◌∷◌, ◌++◌, map, zip, flat_map, option_to_list, Bool, true, false, not, ◌&&◌, Option, Some, None, refl, sym, ap, ◌∙◌, subst, true≢false, append-nil, arith, unwrap_or}
 use Rattle.std.specs.Prelude.{slice_get, filter, if◌then◌else◌}
 use Rattle.std.specs.List.{list_all}
 use Rattle.std.specs.Option.{option_map, option_map_or}
@@ -33,7 +33,7 @@ use Rattle.run_constants.specs.Sound.{IsSound, constant_of, names_of}
 use Rattle.run_names.proofs.Apart.{own_entries}
 use Rattle.run_names.proofs.Arena.{variable_defined, variable_home, variable_seen, variable_there}
 use Rattle.run_names.proofs.OneModule.{module_apart, variable_in}
-use Rattle.run_names.proofs.Roomed.{entry_of}
+use Rattle.run_names.proofs.Roomed.{entry_of, or_other}
 use Rattle.run_names.specs.Spots.{is_defined, size_of}
 use Rattle.run_rules.specs.Constant.{constant_values, shape_of}
 use Rattle.run_rules.specs.Plan.{Contents, contents_from, contents_of}
@@ -45,10 +45,6 @@ use Rattle.run_initial.proofs.Ordered.{AreInOrder, slots_follow, zip_order, zip_
 use Rattle.run_initial.proofs.Sounds.{list_shape, value_typed, values_typed}
 use Rattle.run_initial.proofs.Sounds as sounds
 use Rattle.run_contents.specs.Held.{held, held_by, is_list}
-
-or_other : (b c : Bool) → (not b || c) ≡ true → b ≡ true → c ≡ true
-or_other true c h e = h
-or_other false c h e = absurd (true≢false (sym e))
 
 part_good : (p : Typed → Bool) (f : written.Variable → List Typed) (xs : List written.Variable) (k : ℕ) (x : written.Variable) → list_all p (flat_map f xs) ≡ true → slice_get xs k ≡ Some x → list_all p (f x) ≡ true
 part_good p f [] k x h at = cc

@@ -93,7 +93,7 @@ list_is_array parts e void i h = true≢false (sym h)
 list_is_array parts e (struct packed ts) i h = true≢false (sym h)
 list_is_array parts e (named name) i h = true≢false (sym h)
 
-or_other : (b c : Bool) → (not b || c) ≡ true → b ≡ true → c ≡ true
+pub or_other : (b c : Bool) → (not b || c) ≡ true → b ≡ true → c ≡ true
 or_other true c h e = h
 or_other false c h e = absurd (true≢false (sym e))
 
