@@ -15,7 +15,7 @@ use Rattle.name_rules.specs.ModuleOf.{parameters_in}
 use Rattle.ir_syntax.specs.Tree.{ParameterTree}
 use Rattle.type_build.proofs.Parameters.{behind_le as behind_one}
 
-after_more : (n : ℕ) (xs ys : List Announced) → next_after n (xs ++ ys) ≡ next_after (next_after n xs) ys
+pub after_more : (n : ℕ) (xs ys : List Announced) → next_after n (xs ++ ys) ≡ next_after (next_after n xs) ys
 after_more n [] ys = refl
 after_more n (x ∷ xs) ys = after_more (next_behind n x.1) xs ys
 

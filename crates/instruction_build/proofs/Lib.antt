@@ -4,4 +4,4 @@ pub mod Written
 pub mod Standing
 pub mod Lists
 pub mod Taking
-mod Gathered
+pub mod Gathered

@@ -15,10 +15,7 @@ use Rattle.name_rules.specs.Locals.{Announced, next_behind, next_after, announce
 use Rattle.name_rules.specs.ModuleOf.{parameters_in}
 use Rattle.type_build.proofs.Parameters.{behind_le}
 use Rattle.buildable.specs.Bodies.{result_names}
-
-after_more : (n : ℕ) (xs ys : List Announced) → next_after n (xs ++ ys) ≡ next_after (next_after n xs) ys
-after_more n [] ys = refl
-after_more n (x ∷ xs) ys = after_more (next_behind n x.1) xs ys
+use Rattle.instruction_build.proofs.Gathered.{after_more}
 
 -- the number behind one block more
 pub behind_more : (n : ℕ) (bs : List BlockTree) (b : BlockTree) → next_after n (flat_map announced_block (bs ++ b ∷ [])) ≡ next_after (next_after n (flat_map announced_block bs)) (announced_block b)
