@@ -114,7 +114,7 @@ module _ (ss : Structs) where
 abbrev main_at : ℕ → Option Bool → Option Main
 main_at address o = option_map {U = Main} (λ takes. record { address = address; takes_arguments = takes }) o
 
-made_of_some : {A : Type 0} (f : A → Bytes) (o : Option A) (name : Bytes) → option_map f o ≡ Some name → (x : A) × (o ≡ Some x) × (f x ≡ name)
+pub made_of_some : {A : Type 0} (f : A → Bytes) (o : Option A) (name : Bytes) → option_map f o ≡ Some name → (x : A) × (o ≡ Some x) × (f x ≡ name)
 made_of_some f None name h = cc
 made_of_some f (Some x) name h = (x, refl, same_Some (f x) name h)
 

@@ -47,6 +47,7 @@ use Rattle.type_table.specs.Tree.{Tree}
 use Rattle.type_table.specs.Types.{tree}
 use Rattle.linkage_rules.proofs.Steps.{all_get}
 use Rattle.linkage_rules.proofs.ValidParts.{same_appending}
+use Rattle.run_entry.proofs.Entered.{made_of_some}
 
 -- the name of the list
 abbrev pub list_name : Bytes
@@ -87,10 +88,6 @@ alias_never : (m : Module) (x : Alias) → x.name ≡ list_name → rules.alias_
 alias_never m x called h =
     let plain = (and_parts (not (rules.is_llvm_name x.name)) (not (rules.is_only_called m x.target)) h).0 in
     true≢false (sym (subst (λ (n : Bytes). not (rules.is_llvm_name n) ≡ true) called plain))
-
-made_of_some : {A : Type 0} (f : A → Bytes) (o : Option A) (name : Bytes) → option_map f o ≡ Some name → (x : A) × (o ≡ Some x) × (f x ≡ name)
-made_of_some f None name h = cc
-made_of_some f (Some x) name h = (x, refl, same_Some (f x) name h)
 
 -- what is named is there, and so is its initialiser
 pub variable_within : (a : Lists) (id : ℕ) (name : Bytes) → global_name a (global.Variable id) ≡ Some name → id < length a.variables
