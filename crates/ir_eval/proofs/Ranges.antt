@@ -107,7 +107,7 @@ pub binary_kind : (op : Opcode) (flags width : ℕ) (a b : Scalar) → IsInteger
 unfolding binary_of
 binary_kind op flags width a b in_a in_b = undefined_or width (is_division op && is_no_divisor b) DivisionByZero (operands op flags width a b) (operands_kind op flags width a b in_a in_b)
 
-truth_kind : (holding : Bool) → IsInteger 1 (truth holding)
+pub truth_kind : (holding : Bool) → IsInteger 1 (truth holding)
 truth_kind true = lit< tt
 truth_kind false = lit< tt
 

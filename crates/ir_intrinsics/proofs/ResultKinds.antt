@@ -8,10 +8,9 @@ use Rattle.std.proofs.lemmas.Nat.{pow_pos, ones-le, leading_le, trailing_le, mod
 use Rattle.ir_tables.specs.declared.intrinsic.Intrinsic.{Intrinsic}
 use Rattle.ir_tables.specs.declared.intrinsic.Intrinsic.TheVariants.{Ctpop, Bswap, Bitreverse, Ctlz, Cttz, Abs, Smin, Smax, Umin, Umax, SaddSat, UaddSat, SsubSat, UsubSat, SaddWithOverflow, UaddWithOverflow, SsubWithOverflow, UsubWithOverflow, SmulWithOverflow, UmulWithOverflow, Fshl, Fshr}
 use Rattle.ir_eval.specs.Value.{IsWidth, IsInteger, signed, reduced, fits_signed, fits_unsigned}
-use Rattle.ir_eval.specs.Compare.{truth}
 use Rattle.ir_eval.specs.declared.value.Scalar.{Scalar}
 use Rattle.ir_eval.specs.declared.value.Scalar.TheVariants.{Int, Ptr, Poison}
-use Rattle.ir_eval.proofs.Ranges.{reduced_below}
+use Rattle.ir_eval.proofs.Ranges.{reduced_below, truth_kind}
 use Rattle.ir_eval.proofs.Words.{bounds}
 use Rattle.ir_intrinsics.specs.Operands.{IsOperand, second_width}
 use Rattle.ir_intrinsics.specs.Results.{numbers, apply_of, poisoned, has_second, joined_of}
@@ -29,10 +28,6 @@ unless_poison width false number below = below
 either : (width a b : ℕ) (test : Bool) → a < 2 ^ width → b < 2 ^ width → cond test a b < 2 ^ width
 either width a b true is_a is_b = is_a
 either width a b false is_a is_b = is_b
-
-truth_kind : (holding : Bool) → IsInteger 1 (truth holding)
-truth_kind true = lit< tt
-truth_kind false = lit< tt
 
 pub numbers_kind : (which : Intrinsic) (width a b c : ℕ) → IsWidth width → a < 2 ^ width → b < 2 ^ width → IsOutcome which width (numbers which width a b c)
 numbers_kind Ctpop width a b c w is_a is_b = record { first = let few = ones-le width a is_a in let p = below_power width in omega (arith, few, p); second = tt }
