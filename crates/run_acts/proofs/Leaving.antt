@@ -1,21 +1,15 @@
 -- What is left when a function returns.
-use Rattle.std.proofs.Common.{◌≡◌, ℕ, List, [], ◌∷◌, ◌++◌, map, Some, refl, sym, ap, ◌∙◌, subst}
+use Rattle.std.proofs.Common.{◌≡◌, ℕ, List, [], ◌∷◌, Some, refl, sym, ap, ◌∙◌, subst}
 use Rattle.std.specs.Prelude.{All}
 use Rattle.std.proofs.lemmas.List.Elements.{All-tail}
 use Rattle.std.proofs.lemmas.Option.{none-some, same_Some}
-use Rattle.std.proofs.lemmas.Simd.{map-map}
 use Rattle.ir_eval.specs.declared.value.Pointer.{Pointer}
-use Rattle.ir_eval.specs.declared.value.Scalar.{Scalar}
 use Rattle.ir_memory.specs.Answer.{Keeps}
 use Rattle.ir_memory.specs.Given.{IsBlock, IsKnown}
 use Rattle.ir_memory.specs.Memory.{Blocks}
 use Rattle.run_rules.specs.Access.{released}
-use Rattle.run_rules.specs.Frame.{read, read_all}
 use Rattle.run_rules.specs.State.{Frame}
-use Rattle.run_stack.specs.declared.origin.Origin.{Origin}
-use Rattle.run_stack.specs.Origins.{origin_of}
 use Rattle.run_stack.specs.UnderWay.{UnderWay, changed, first_alloca, IsRunning, newest, older, on_newest, other_allocas, without_alloca}
-use Rattle.run_actions.specs.Operands.{leaf_of}
 use Rattle.run_actions.proofs.Carried.{running_after}
 use Rattle.run_acts.specs.Said.{with_allocas}
 
@@ -75,10 +69,3 @@ under widest fs = record { frames = fs; widest = widest }
 -- the frames that are left
 pub left_is : (old s t : UnderWay) → s ≡ changed (with_allocas []) old → t ≡ record { frames = older s.frames; widest = s.widest } → t ≡ record { frames = older old.frames; widest = old.widest }
 left_is old s t cleared left = left ∙ ap (λ (u : UnderWay). under u.widest (older u.frames)) cleared ∙ ap (under old.widest) (older_same (with_allocas []) old.frames)
-
--- ---- the value
-
--- the leaves of a value, put into room that was empty
-pub leaves_read : (s : UnderWay) (value : List Origin) (old items leaves : List Scalar) → old ≡ [] → items ≡ old ++ read_all (newest s.frames) (map origin_of value) → leaves ≡ items → leaves ≡ map (leaf_of s) value
-leaves_read s value old items leaves none added same =
-    same ∙ added ∙ ap (λ (l : List Scalar). l ++ read_all (newest s.frames) (map origin_of value)) none ∙ map-map (read (newest s.frames)) origin_of value

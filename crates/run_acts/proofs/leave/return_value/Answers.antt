@@ -1,7 +1,7 @@
 use Rattle.std.proofs.Common.{List, subst}
 use Rattle.ir_eval.specs.declared.value.Scalar.{Scalar}
+use Rattle.run_accesses.proofs.Storing.{leaves_read}
 use Rattle.run_acts.specs.Said.{IsReturned}
-use Rattle.run_acts.proofs.Leaving.{leaves_read}
 use Rattle.run_acts.proofs.leave.return_value.Goals as goal
 
 pub returns-clause-returned : goal.returns-clause-returned
