@@ -41,7 +41,7 @@ pointer_is _ h = absurd (true≢false (sym h))
 pub base_pointer : (ss : Structs) (source t : Tree) (c : Constant) (cs : Constants) → element_operands_fit ss source (more_constants t c cs) ≡ true → t ≡ ptr
 base_pointer ss source t c cs h = pointer_is t (and_parts (is_pointer t) (indices_fit ss source (index_constants cs)) h).0
 
-integers_in : (ss : Structs) (source : Tree) (is : List Index) → indices_fit ss source is ≡ true → list_all (λ (i : Index). is_integer i.ty) is ≡ true
+pub integers_in : (ss : Structs) (source : Tree) (is : List Index) → indices_fit ss source is ≡ true → list_all (λ (i : Index). is_integer i.ty) is ≡ true
 integers_in ss source [] h = h
 integers_in ss source (i ∷ is) h = (and_parts (list_all (λ (i : Index). is_integer i.ty) (i ∷ is)) (leads_to_part ss source is) h).0
 

@@ -9,7 +9,7 @@ use Rattle.ir_tables.specs.declared.flag.Flag.TheVariants.{Samesign}
 use Rattle.ir_tables.specs.Flags.{has_flag}
 use Rattle.ir_tables.specs.Table.{is_distinct}
 use Rattle.type_table.specs.Layout as layouts
-use Rattle.type_table.specs.Tree.{Tree, int, ptr, Structs}
+use Rattle.type_table.specs.Tree.{Tree, int, ptr}
 use Rattle.type_table.specs.Types.{shape, structs, tree}
 use Rattle.module_arena.specs.declared.entry.Function as the_function
 use Rattle.module_arena.specs.declared.instruction.Call.{Call}
@@ -19,7 +19,7 @@ use Rattle.module_arena.specs.declared.instruction.Ending.TheVariants as ending
 use Rattle.module_arena.specs.declared.instruction.Inst.{Inst}
 use Rattle.module_arena.specs.declared.instruction.Inst.TheVariants as inst
 use Rattle.module_arena.specs.declared.instruction.Operand.{Operand}
-use Rattle.module_arena.specs.Constants.{Index, indices_fit, leads_to_part, written_number}
+use Rattle.module_arena.specs.Constants.{Index, indices_fit, written_number}
 use Rattle.module_arena.specs.Lists.{Lists, function_blocks, value_names}
 use Rattle.module_arena.specs.Module as m
 use Rattle.module_arena.specs.Same.{same_type}
@@ -28,6 +28,7 @@ use Rattle.module_arena.specs.ValueRules.{case_numbers, index_of_operand, is_cas
 use Rattle.module_arena.proofs.SameValues.{type_is}
 use Rattle.run_constants.specs.Sound.{is_scalar}
 use Rattle.run_constants.proofs.LeafKinds.{cast_scalars, integer_scalar, pointer_scalar}
+use Rattle.run_constants.proofs.Held.{integers_in}
 use Rattle.run_scopes.specs.Scopes.{Framed, HasOperand, HasScalar, operand_of}
 use Rattle.run_scopes.proofs.Shaped.{small_laid}
 use Rattle.run_operands.specs.Suits.{BlockSuits, EndSuits, HasCall, HasCase, IsResult, Lies, Suits}
@@ -49,11 +50,6 @@ compared_scalar (int w) b h = refl
 compared_scalar ptr b h = refl
 compared_scalar _ true h = absurd (true≢false (sym h))
 compared_scalar _ false h = absurd (true≢false (sym h))
-
--- indices are integers
-indices_integers : (ss : Structs) (source : Tree) (is : List Index) → indices_fit ss source is ≡ true → list_all (λ (i : Index). is_integer i.ty) is ≡ true
-indices_integers ss source [] h = refl
-indices_integers ss source (i ∷ is) h = (and_parts (list_all (λ (i : Index). is_integer i.ty) (i ∷ is)) (leads_to_part ss source is) h).0
 
 module _ (a : Lists) (f : the_function.Function) (places : List ℕ) where
   abbrev s : Framed
@@ -130,7 +126,7 @@ module _ (a : Lists) (f : the_function.Function) (places : List ℕ) where
         record {
           lies = record { known = h.ids.types_known 0 source (omega arith); laid = h.asked.other_types };
           base = scalar_had base h.had.0 (pointer_scalar (tree a.table base.ty) p.0);
-          indices = All-from_recursion (HasScalar s) indices (indices_there indices h.had.1 (indices_integers (structs a.table) (tree a.table source) is p.1));
+          indices = All-from_recursion (HasScalar s) indices (indices_there indices h.had.1 (integers_in (structs a.table) (tree a.table source) is p.1));
         },
       )
   suits (inst.Call call) h = call_there call h
