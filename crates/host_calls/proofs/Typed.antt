@@ -2,7 +2,6 @@
 use Rattle.std.proofs.Common.{◌≡◌, ℕ, List, [], ◌∷◌, ◌++◌, map, refl, sym, ap, ◌∙◌, subst, true, false, true≢false, Option, Some, None, inl, inr}
 use Rattle.std.specs.List.{AllZip, list_any}
 use Rattle.std.proofs.lemmas.Bool.{or_cases}
-use Rattle.std.proofs.lemmas.List.{append-nil}
 use Rattle.ir_eval.specs.Value.{IsInteger}
 use Rattle.ir_eval.specs.declared.value.Scalar.{Scalar}
 use Rattle.ir_intrinsics.specs.Operands.{IsOperand, second_width, third_width}
@@ -23,7 +22,7 @@ use Rattle.run_types.specs.Wanted.{leaf_of}
 use Rattle.type_table.specs.Shape.{Shape, int_leaf, ptr_leaf, void_leaf, opaque_leaf, array_of, struct_of}
 use Rattle.typed_runs.specs.Actions.{AreArguments}
 use Rattle.typed_runs.specs.Kinds.{IsOf, kinds_of_all}
-use Rattle.typed_runs.proofs.Hosts.{signature_exact}
+use Rattle.typed_runs.proofs.Hosts.{signature_exact, all_parameters}
 use Rattle.typed_runs.proofs.Values.{integer_from}
 use Rattle.host_calls.specs.Made.{IsHostCall}
 use Rattle.host_calls.specs.Printing.{AreOf, ArePrinted}
@@ -35,10 +34,6 @@ only used s e = elim (or_cases (same_signature used s) false e) [
   | inl y ↦ signature_exact used s y
   | inr n ↦ absurd (true≢false (sym n))
 ]
-
--- where no further arguments may be given
-all_parameters : (used : Signature) (shapes : List Shape) (are : AreArguments used shapes) → used.variadic ≡ false → shapes ≡ used.parameters
-all_parameters used shapes are fixed = are.1 ∙ ap (λ (xs : List Shape). used.parameters ++ xs) (are.2 fixed) ∙ append-nil used.parameters
 
 module _ (count : ℕ) (used : Signature) (shapes : List Shape) (vs : List Scalar) (fit : AreArguments used shapes) (leaves : AllZip (IsOf count) (kinds_of_all shapes) vs) where
   -- the leaves are those of the parameters

@@ -109,7 +109,7 @@ Each P [] = ⊤
 Each P (x ∷ xs) = P x × Each P xs
 
 -- where no further arguments may be given
-all_parameters : (used : Signature) (shapes : List Shape) (are : AreArguments used shapes) → used.variadic ≡ false → shapes ≡ used.parameters
+pub all_parameters : (used : Signature) (shapes : List Shape) (are : AreArguments used shapes) → used.variadic ≡ false → shapes ≡ used.parameters
 all_parameters used shapes are fixed = are.1 ∙ ap (λ (xs : List Shape). used.parameters ++ xs) (are.2 fixed) ∙ append-nil used.parameters
 
 -- i32 (ptr, ...)
