@@ -8,7 +8,7 @@ use Rattle.run_rules.specs.RunClauses.{Reached, ReadsWell, WritesBeforeItReads}
 use Rattle.run_laws.proofs.Grows.{Grows, later_grows, asked_takes, step_adds_one}
 use Rattle.run_laws.proofs.Reached.{steps_more, rest_before, rest_after}
 
-front_of_front : (a b c : List ℕ) → IsFront a b → IsFront b c → IsFront a c
+pub front_of_front : (a b c : List ℕ) → IsFront a b → IsFront b c → IsFront a c
 front_of_front a b c f g = (f.0 ++ g.0, g.1 ∙ ap (λ (ys : List ℕ). ys ++ g.0) f.1 ∙ append_assoc a f.0 g.0)
 
 -- what was written before is

@@ -1,5 +1,5 @@
 -- What a run has put out stands in front of all that it puts out in the end.
-use Rattle.std.proofs.Common.{◌≡◌, ℕ, zero, suc, ◌<◌, ◌≤◌, List, [], ◌∷◌, ◌++◌, refl, sym, ap, ◌∙◌, append_assoc, subst, arith}
+use Rattle.std.proofs.Common.{◌≡◌, ℕ, zero, suc, ◌<◌, ◌≤◌, List, [], ◌∷◌, refl, sym, subst, arith}
 use Rattle.std.proofs.lemmas.List.{append-nil}
 use Rattle.run_rules.specs.Action.{Action}
 use Rattle.run_rules.specs.Calls.{Callee}
@@ -8,12 +8,10 @@ use Rattle.run_rules.specs.Due.{called_due}
 use Rattle.run_rules.specs.State.{Frame, Due, Core, State, Next, Goes, Gets, Stops}
 use Rattle.run_rules.specs.declared.end.End.TheVariants.{StepsUsed}
 use Rattle.run_rules.specs.Step.{Step, GoesOn, IsOver, carried, took, then_on, called_while_idle, entered, counted, next_of, step, used_up, advanced, run}
+use Rattle.run_laws.proofs.BeforeReads.{front_of_front}
 
 pub no_front : (xs : List ℕ) → IsFront xs xs
 no_front xs = ([], sym (append-nil xs))
-
-pub front_of_front : (a b c : List ℕ) → IsFront a b → IsFront b c → IsFront a c
-front_of_front a b c f g = (f.0 ++ g.0, g.1 ∙ ap (λ (ys : List ℕ). ys ++ g.0) f.1 ∙ append_assoc a f.0 g.0)
 
 took_fronts : (s : State) (to : ℕ) (c : Core) (input : List ℕ) → IsFront s.output (output_of (took s to c input))
 took_fronts s to c [] = no_front s.output

@@ -19,8 +19,9 @@ use Rattle.run_rules.specs.declared.end.End.{End}
 use Rattle.run_rules.specs.declared.end.End.TheVariants.{StepsUsed}
 use Rattle.run_rules.specs.declared.fault.RunFault.TheVariants.{ReadFault, WriteFault, Memory}
 use Rattle.run_laws.proofs.Reached.{added_none, lost_none}
+use Rattle.run_laws.proofs.BeforeReads.{front_of_front}
 use Rattle.run_played.proofs.Few.{ends_in_time}
-use Rattle.run_played.proofs.Fronts.{front_of_front, next_output, reached_output}
+use Rattle.run_played.proofs.Fronts.{next_output, reached_output}
 use Rattle.run_played.proofs.Longer.{advanced_steps, none_earlier}
 use Rattle.run_played.specs.Laws.{EarlyEndsArePlayed, RunsArePlayed}
 use Rattle.run_played.specs.Played.{AsksAt, Plays, Program, PutsBeforeItReads, Reaches, outcome_of}
