@@ -26,7 +26,7 @@ use Rattle.type_table.proofs.Added.{All-below}
 use Rattle.module_arena.specs.Same.{same_type, same_types}
 use Rattle.type_verify.specs.Classes.{AreClasses, AreSlots, key_of}
 
-neither : (i j : ℕ) → (i < j → ⊥) → (j < i → ⊥) → i ≡ j
+pub neither : (i j : ℕ) → (i < j → ⊥) → (j < i → ⊥) → i ≡ j
 neither i j less more = omega arith
 
 index_clash : (ns : List (List ℕ)) (i j : ℕ) → AllPairs (λ a b. a ≢ b) ns → j < length ns → get_or ns i [] ≡ get_or ns j [] → i < j → ⊥

@@ -18,6 +18,7 @@ use Rattle.module_arena.specs.SameConstLaws.{same_const_decides}
 use Rattle.module_arena.specs.View.{constant_at, constants_of}
 use Rattle.module_arena.proofs.ConstantsTold.{const_known, const_weaker, constant_here}
 use Rattle.type_verify.specs.Classes.{AreClasses as AreTypeClasses}
+use Rattle.type_verify.proofs.ClassesTold.{neither}
 use Rattle.use_verify.specs.Classes.{AreClasses}
 use Rattle.use_verify.specs.Keys.{AreSlots, key_of}
 use Rattle.use_verify.proofs.KeysTold.{key_same, key_kept}
@@ -31,9 +32,6 @@ place_clash keys i j x y apart ex ey e lt =
     let first = get_or_from_slice_get keys i x x ex in
     let second = get_or_from_slice_get keys j y x ey in
     true≢false (sym ((same_const_decides x y).1 e) ∙ (λ k. same_const (sym first k) (sym second k)) ∙ differ)
-
-neither : (i j : ℕ) → (i < j → ⊥) → (j < i → ⊥) → i ≡ j
-neither i j less more = omega arith
 
 one_place : (keys : List Const) (i j : ℕ) (x y : Const) → IsDistinct same_const keys → slice_get keys i ≡ Some x → slice_get keys j ≡ Some y → x ≡ y → i ≡ j
 one_place keys i j x y apart ex ey e =
