@@ -163,8 +163,8 @@ searched_next lists start next old new numbers here e was grown = record {
     done place h false q number k =
         let no : (place ≡ next) → ⊥ = (λ w. let r = eq-eqb place next w in absurd cc) in
         let before : place < next = omega (arith, h, no) in
-        let set_within : place < length old = omega (arith, before, here) in
-        stays old grown.extra new number grown.longer (was.done place before set_within number (subst (λ m. HasNumber number (mentioned lists m)) (same place set_within) k))
+        let inside : place < length old = omega (arith, before, here) in
+        stays old grown.extra new number grown.longer (was.done place before inside number (subst (λ m. HasNumber number (mentioned lists m)) (same place inside) k))
 
 -- each number in the queue has a list
 pub in_queue : (marks : List Bool) (queue : List ℕ) (place : ℕ) → AreMarks marks queue → place < length queue → get_or queue place 0 < length marks
