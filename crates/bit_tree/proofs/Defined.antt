@@ -169,9 +169,6 @@ scalar_sound Array s is = absurd (cc)
 scalar_sound Char6 s is = let s_is : Letter ≡ s = cc in rw (← s_is) refl
 scalar_sound Blob s is = absurd (cc)
 
-abbrev element_by : ℕ → Encoding → ℕ → Cursor → Found ValueSpelling
-element_by left e bit f = scalar_by e bit f >>= λ s g. element_of f.at s g
-
 element_from : (op : AbbrevOp) (k : ℕ) (e : Encoding) (bits : List Bool) (s : ValueSpelling) (tail : Tail) → k < 8 → ((bit : ℕ) (d : Cursor) → encoding_of bit k d ≡ Ok (e, d)) → ((bit : ℕ) → ReadsAs (scalar_by e bit) bits s)
     → bits_of 1 0 ++ bits_of 3 k ++ bits ≡ operand_bits op → is_sound s ≡ true → ((bit : ℕ) (d : Cursor) → element_of bit s d ≡ Ok (s, d)) → Elements s ≡ tail → Element op tail
 unfolding element

@@ -40,10 +40,6 @@ align_from n at rest same =
     let whole = align_whole (record { at = at; rest = pad_bits n ++ rest }) (omega (arith, size, length-append (pad_bits n) rest)) in
     whole ∙ rw (size, drop_at (pad_bits n) rest (length (pad_bits n)) refl) refl
 
-byte_bits : (n : ℕ) (ns : List ℕ) → all_bits (Field 8) (n ∷ ns) ≡ bits_of 8 n ++ all_bits (Field 8) ns
-unfolding value_bits
-byte_bits n ns = refl
-
 pub byte_size : (ns : List ℕ) → length (all_bits (Field 8) ns) ≡ 8 * length ns
 unfolding value_bits
 byte_size [] = refl

@@ -30,10 +30,6 @@ pub and_true : (b : Bool) → (b && true) ≡ b
 and_true true = refl
 and_true false = refl
 
-not_or : (x y : Bool) → not (x || y) ≡ (not x && not y)
-not_or true y = refl
-not_or false y = refl
-
 -- ---- addresses
 
 module _ (m : Module) where

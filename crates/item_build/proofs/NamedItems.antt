@@ -93,9 +93,6 @@ names_same a = λ j.
     ++ (map_twice (alias_view (trees a.table) (name_at a)) (λ (x : m.Alias). x.name) a.aliases j
     ++ map_twice (function_view (trees a.table) (constants_of a)) (λ (f : m.Function). f.name) a.functions j)
 
-like_itself : (n : Bytes) → bytes_eq n n ≡ true
-like_itself n = (bytes_eq-Decides n n).1 refl
-
 any_at : {A : Type 0} (f : A → Bytes) (n : Bytes) (xs : List A) (k : ℕ) → option_map f (slice_get xs k) ≡ Some n → list_any (bytes_eq n) (map f xs) ≡ true
 any_at f n [] k is = absurd cc
 any_at f n (x ∷ xs) zero is = or_left (bytes_eq n (f x)) (list_any (bytes_eq n) (map f xs)) ((bytes_eq-Decides n (f x)).1 (sym (some_equal is)))

@@ -1,18 +1,15 @@
 -- Alignments are the powers of two up to 2^16.
-use Rattle.std.proofs.Common.{◌≡◌, ℕ, zero, suc, ◌≤◌, ◌<◌, ◌+◌, ◌^◌, List, [], ◌∷◌, Bool, true, false, inl, inr, refl, sym, subst, arith}
+use Rattle.std.proofs.Common.{◌≡◌, ℕ, zero, suc, ◌≤◌, ◌<◌, ◌+◌, ◌^◌, List, [], ◌∷◌, Bool, true, false, inl, inr, sym, subst, arith}
 use Rattle.std.specs.Prelude.{nat_eq}
 use Rattle.std.specs.List.{list_any}
 use Rattle.std.proofs.lemmas.Bool.Decides.{eqb_tells}
 use Rattle.std.proofs.lemmas.Bool.{or_cases, or_left, or_right, eqb-true, eq-eqb}
-use Rattle.module_arena.specs.EntryRules.{alignments, is_alignment, AlignmentsArePowers}
+use Rattle.module_arena.specs.EntryRules.{AlignmentsArePowers}
 
 -- so many powers of two, from this one on
 abbrev powers : ℕ → ℕ → List ℕ
 powers k zero = []
 powers k (suc count) = 2 ^ k ∷ powers (suc k) count
-
-all_of_them : powers 0 17 ≡ alignments
-all_of_them = refl
 
 -- what is among them is one
 is_power : (n count k : ℕ) → list_any (nat_eq n) (powers k count) ≡ true → (j : ℕ) × (j < k + count) × (n ≡ 2 ^ j)

@@ -39,9 +39,6 @@ joined_none None b e = inl refl
 joined_none (Some m) None e = inr refl
 joined_none (Some m) (Some ms) e = absurd cc
 
-joined_first : (b : Option (List Measure)) → joined None b ≡ None
-joined_first b = refl
-
 joined_second : (a : Option Measure) → joined a None ≡ None
 joined_second None = refl
 joined_second (Some m) = refl

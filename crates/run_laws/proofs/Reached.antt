@@ -22,10 +22,6 @@ added_none (Some xs) = ap (λ (ys : List ℕ). Some ys) (sym (append-nil xs))
 
 -- STEPS, ONE BY ONE
 
-then_then : (f g : State → Step) (x : Step) → then_on (λ s. then_on g (f s)) x ≡ then_on g (then_on f x)
-then_then f g (GoesOn s) = refl
-then_then f g (IsOver end s) = refl
-
 pub advanced_one : (look : ℕ → ℕ → ℕ → Action) (table : ℕ → Callee) (n : ℕ) (s : State) → advanced look table (suc n) s ≡ then_on (step look table) (advanced look table n s)
 unfolding advanced
 advanced_one look table zero s = go (step look table s)

@@ -27,9 +27,6 @@ join_next : (packed : Bool) (sofar : Measure) (field : Measure) (rest : Option (
 join_next packed sofar field None = refl
 join_next packed sofar field (Some ms) = refl
 
-join_none : (packed : Bool) (sofar : Measure) (rest : Option (List Measure)) → option_map (with_all packed sofar) (joined None rest) ≡ None
-join_none packed sofar rest = refl
-
 split : (look : Bytes → Option Measure) (packed : Bool) (sofar : Measure) (fields : List the_type.Type) (i : ℕ) (field : the_type.Type) → i < length fields → field ≡ get_or fields i field
     → with_more look packed sofar fields i ≡ option_map (with_all packed sofar) (joined (tree_measured look (type_in (type_view field))) (all_measured look (types_in (types (map type_view (drop (i + 1) fields))))))
 split look packed sofar fields i field h e =

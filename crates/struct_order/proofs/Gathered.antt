@@ -53,10 +53,6 @@ number_more next (x ∷ structs) s name = by (bytes_eq x.0 name) (number_more (s
     by true e = refl
     by false e = e
 
-cons-append : {B : Type 0} (o : Option B) (front whole ys : List B) → whole ≡ front ++ ys → cons_option o whole ≡ cons_option o front ++ ys
-cons-append None front whole ys e = e
-cons-append (Some b) front whole ys e = ap (λ more. b ∷ more) e
-
 -- the names in the types from one on
 abbrev pub names_behind : List the_type.Type → ℕ → List Bytes
 names_behind tys i = all_names_in (types_in (types (map type_view (drop i tys))))

@@ -138,10 +138,6 @@ module _ (t : Typing) (look : ℕ → ℕ → ℕ → Action) (table : ℕ → C
   abbrev IsWithMain : Blocks → Blocks × Due → Type 0
   IsWithMain m x = IsOpened (length arguments + 1) m x.0 × IsTypedDue t look table (length x.0.list) x.1 × IsTrueMain look table x.1
 
-  -- at most that many
-  at_most : (a b : ℕ) (m n : Blocks) → a ≤ b → IsTypedMemory n → length m.list + a ≤ length n.list → n.next ≤ m.next + a * reach → (length m.list ≤ length n.list) × (n.next ≤ m.next + b * reach)
-  at_most a b m n le h k l = (omega (arith, k), omega (arith, le, l))
-
   -- what opening has come to before the initialisers
   pub record IsReady (m : Blocks) (x : Blocks × Due) : Type 0 where
     pub typed : IsTypedMemory x.0
