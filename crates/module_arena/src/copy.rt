@@ -30,10 +30,7 @@ pub(crate) fn copied_items<T: Copied>(alloc: Global, items: &[T]) -> Result<Vec<
 }
 
 /// The same plain items, in a list of their own. It is refused for want of memory alone.
-pub fn same_items<T: Copy>(
-    alloc: Global,
-    items: &ItemList<T>,
-) -> Result<ItemList<T>, AllocError>
+pub fn same_items<T: Copy>(alloc: Global, items: &ItemList<T>) -> Result<ItemList<T>, AllocError>
     ensures { IfOk result (λ copy. copy ≡ items.now) }
 {
     Ok(ItemList::from_vec(Vec::from_slice(alloc, items.as_slice())?))
