@@ -120,8 +120,7 @@ impl<'m> Live<'m> {
         }
     }
 
-    // Carries out one instruction of the newest frame, if it neither calls nor returns. It stands apart, so that the loop over instructions
-    // is made once where the run goes on.
+    // Carries out one instruction of the newest frame, if it neither calls nor returns.
     #[inline(never)]
     fn go_one(&mut self) -> Stretch
         requires { (steps : ℕ) × IsLive steps self.old × (steps + 1 ≤ STEP_LIMIT) }

@@ -30,7 +30,7 @@ pub(crate) struct Stretch {
 
 /// Carries out instructions one after another, as long as each goes on and neither calls nor returns, but no more than `most`. They
 /// write nothing. What `room` has is lost.
-#[inline(always)]
+#[inline(never)]
 pub(crate) fn walk(
     program: &Program<'_>,
     stack: &mut Stack,
