@@ -13,11 +13,17 @@ use Rattle.ir_constants.specs.declared.constant.Brackets.{Brackets}
 mutual
   -- a type by itself
   pub data TypeTree : Type 0 where
+    -- `iN`
     IntegerType : (place : Place) → (width : ℕ) → TypeTree
+    -- `ptr`
     PointerType : (place : Place) → TypeTree
+    -- `void`
     VoidType : (place : Place) → TypeTree
+    -- `[count x element]`
     ArrayType : (place : Place) → (count : Integer) → (element : TypeTree) → TypeTree
+    -- `{ .. }`, or `<{ .. }>` where it is packed
     StructType : (place : Place) → (packed : Bool) → (fields : TypeTrees) → TypeTree
+    -- `%name`, a struct
     NamedType : (name : PlacedName) → TypeTree
 
   -- types, one after another
@@ -34,13 +40,21 @@ types (t ∷ ts) = more_types t (types ts)
 mutual
   -- a constant by itself
   pub data ConstantTree : Type 0 where
+    -- a number, with its sign
     IntegerConstant : (number : Integer) → ConstantTree
+    -- a word that is a constant, as `null` is
     SimpleConstant : (simple : Simple) → (place : Place) → ConstantTree
+    -- `@name`
     AddressConstant : (global : PlacedName) → ConstantTree
+    -- `c".."`
     BytesConstant : (bytes : PlacedText) → ConstantTree
+    -- an array or a struct, element by element
     ListConstant : (place : Place) → (brackets : Brackets) → (elements : ConstantTrees) → ConstantTree
+    -- `getelementptr` of constants
     ElementAddress : (place : Place) → (flags : ℕ) → (source : TypeTree) → (operands : ConstantTrees) → ConstantTree
+    -- a cast of a constant
     Conversion : (place : Place) → (opcode : Opcode) → (from : TypeTree) → (value : ConstantTree) → (to : TypeTree) → ConstantTree
+    -- `add`, `sub` or `xor` of constants
     Arithmetic : (place : Place) → (opcode : Opcode) → (flags : ℕ) → (left_type : TypeTree) → (left : ConstantTree) → (right_type : TypeTree) → (right : ConstantTree) → ConstantTree
 
   -- constants, each with its type
@@ -59,7 +73,9 @@ constants (c ∷ cs) = more_constants c.0 c.1 (constants cs)
 
 -- what an instruction works on
 pub data ValueTree : Type 0 where
+  -- `%name`, what a parameter or an instruction gives
   LocalValue : (name : Local) → ValueTree
+  -- a constant
   ConstantValue : (constant : ConstantTree) → ValueTree
 
 -- a value and its type

@@ -11,8 +11,11 @@ use Rattle.ir_instructions.specs.Tree.{BlockTree}
 
 -- what a struct is
 pub data BodyTree : Type 0 where
+  -- `opaque`
   OpaqueBody : BodyTree
+  -- `{ .. }`
   PlainBody : (fields : List TypeTree) → BodyTree
+  -- `<{ .. }>`
   PackedBody : (fields : List TypeTree) → BodyTree
 
 -- a variable, with what the text writes of it
@@ -26,7 +29,9 @@ pub record VariableTree : Type 0 where
 
 -- what an alias stands for: a variable, or a function by its return type, its parameters and whether `...` ends them
 pub data AliasTypeTree : Type 0 where
+  -- any type but that of a function
   PlainAlias : (ty : TypeTree) → AliasTypeTree
+  -- a function type
   FunctionAlias : (returns : TypeTree) → (parameters : List TypeTree) → (variadic : Bool) → AliasTypeTree
 
 -- an alias, with what the text writes of it
@@ -48,13 +53,23 @@ pub record HeadTree : Type 0 where
 
 -- An item, with the place of its first token where no name has it.
 pub data ItemTree : Type 0 where
+  -- `source_filename = ".."`
   SourceFilename : (place : Place) → (text : PlacedText) → ItemTree
+  -- `target datalayout = ".."`
   DataLayout : (place : Place) → (text : PlacedText) → ItemTree
+  -- `target triple = ".."`
   TargetTriple : (place : Place) → (text : PlacedText) → ItemTree
+  -- `%name = type ..`
   Struct : (name : PlacedName) → (body : BodyTree) → ItemTree
+  -- `@name = global ..` or `constant`
   Variable : (variable : VariableTree) → ItemTree
+  -- `@name = alias ..`
   Alias : (alias : AliasTree) → ItemTree
+  -- `declare`, with what its parameters are
   Declaration : (place : Place) → (head : HeadTree) → (parameters : List TypeTree) → (variadic : Bool) → ItemTree
+  -- `define`, with its blocks
   Definition : (place : Place) → (head : HeadTree) → (parameters : List ParameterTree) → (blocks : List BlockTree) → ItemTree
+  -- `attributes #0 = { .. }`, of which nothing is kept
   Attributes : (place : Place) → ItemTree
+  -- `!name = ..`, of which nothing is kept
   Metadata : (place : Place) → ItemTree

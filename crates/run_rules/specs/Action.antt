@@ -9,7 +9,9 @@ use Rattle.run_rules.specs.Leaves.{Slot}
 
 -- where a leaf is had from: from that place in the frame, or it is known
 pub data Origin : Type 0 where
+  -- what stands at that place of the frame
   Held : (place : ℕ) → Origin
+  -- that leaf
   Known : (leaf : Scalar) → Origin
 
 -- a leaf of a phi, and where it is had from on an edge
@@ -39,14 +41,19 @@ pub record Signature : Type 0 where
 pub data Action : Type 0 where
   -- a binary instruction on integers
   Compute : (to : ℕ) → (opcode : Opcode) → (flags width : ℕ) → (left right : Origin) → Action
+  -- `icmp`
   Compare : (to : ℕ) → (predicate : Predicate) → (samesign : Bool) → (width : ℕ) → (left right : Origin) → Action
+  -- a cast, from so many bits to so many
   Convert : (to : ℕ) → (opcode : Opcode) → (flags from_width to_width : ℕ) → (value : Origin) → Action
+  -- the leaves of the one value, or those of the other
   Select : (to : ℕ) → (condition : Origin) → (arms : List (Origin × Origin)) → Action
   -- each leaf, and whether it is a pointer
   Freeze : (to : ℕ) → (value : List (Bool × Origin)) → Action
   -- extractvalue and insertvalue: the result has these leaves
   Gather : (to : ℕ) → (value : List Origin) → Action
+  -- a value at these slots from the address
   Load : (to align : ℕ) → (address : Origin) → (slots : List Slot) → Action
+  -- leaves, each to its slot from the address
   Store : (align : ℕ) → (address : Origin) → (value : List (Slot × Origin)) → Action
   -- a block for so many values of that size
   Allocate : (to size align : ℕ) → (count : Origin) → Action
@@ -54,11 +61,15 @@ pub data Action : Type 0 where
   Displace : (to : ℕ) → (inbounds : Bool) → (base : Origin) → (terms : List Term) → Action
   -- a function by its address. The shapes are those of the arguments
   Call : (to : ℕ) → (signature : Signature) → (callee : Origin) → (shapes : List Shape) → (arguments : List Origin) → Action
+  -- `ret`, with the leaves of its value
   Return : (value : List Origin) → Action
+  -- `br` to one block
   Jump : (edge : Edge) → Action
+  -- `br` by a condition
   Branch : (condition : Origin) → (then_edge else_edge : Edge) → Action
   -- the first case with that number, or else the other edge
   Switch : (value : Origin) → (otherwise : Edge) → (cases : List (ℕ × Edge)) → Action
+  -- `unreachable`
   Unreachable : Action
   -- No instruction is there. A run that came here would end as at `unreachable`, so ends alone do not tell it: that no run of a
   -- valid module comes here is a law of its own
