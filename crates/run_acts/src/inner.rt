@@ -1,5 +1,5 @@
 //! Instructions that stay in their function.
-ghost use Rattle.std.specs.Prelude.{◌≡◌, ℕ, IfOk, OnErr, OnOk, length, true};
+ghost use Rattle.std.specs.Prelude.{◌≡◌, ℕ, IfOk, OnErr, OnOk, Some, length, true};
 ghost use Rattle.ir_memory.specs.Memory.{Blocks, HasFreeAddresses};
 ghost use Rattle.module_arena.specs.Lists.{Lists};
 ghost use Rattle.run_rules.specs.Wants.{wants_memory};
@@ -20,14 +20,14 @@ use run_flat::{Action, Pools};
 use run_stack::Stack;
 use std::alloc::AllocError;
 
-/// What an instruction comes to that goes on or is undefined.
+/// What an instruction comes to that goes on or is undefined. It is made where it stands: a call that fills it would have it lie in memory.
 #[inline]
 fn next_of(done: Result<(), UndefinedKind>) -> Next
     ensures { AnswersWith done result }
 {
     match done {
         Ok(()) => Next::Goes,
-        Err(kind) => fails(kind),
+        Err(kind) => Next::Stops(Stop::Undefined(kind)),
     }
 }
 
@@ -44,23 +44,23 @@ fn next_of_access(done: Result<(), MemoryFault>) -> Result<Option<Next>, AllocEr
     }
 }
 
-/// A select, a freeze, or parts of values put together. It stands apart so that no other instruction makes room for a copy of the action.
-/// What `room` has is lost.
+/// A select, a freeze, or parts of values put together. It stands apart so that no other instruction makes room for a copy of the action,
+/// and tells only whether it is refused, so that the answers of all others need not lie in memory. What `room` has is lost.
 #[inline(never)]
 fn act_on_many(
     stack: &mut Stack,
     pools: &Pools,
     action: &Action,
     room: &mut Vec<Scalar>,
-) -> Result<Option<Next>, AllocError>
+) -> Result<(), AllocError>
     requires group { is_value action.now ≡ true }
     requires may { (count : ℕ) × MayAct count pools.now action.now stack.old }
-    ensures comes { IfOk result (λ next. (m : Blocks) (a : Lists) → ComesInside (action_of pools.now a action.now) next stack.old stack.new m m) }
+    ensures comes { OnOk result ((m : Blocks) (a : Lists) → ComesInside (action_of pools.now a action.now) (Some Next.Goes) stack.old stack.new m m) }
     ensures stays { OnOk result (FunctionsStay stack.old stack.new) }
     ensures wants { OnErr result ((a : Lists) → wants_memory (action_of pools.now a action.now) ≡ true) }
 {
     act_on_values(stack, pools, *action, room)?;
-    Ok(Some(Next::Goes))
+    Ok(())
 }
 
 /// An instruction of the newest frame, if it neither calls nor returns. None where it does: then nothing is done. What `room` has is lost.
@@ -167,7 +167,8 @@ pub(crate) fn act_within(
         } => Ok(Some(next_of(act_on_switch(stack, pools, action, value, otherwise, cases)))),
         Action::Unreachable => Ok(Some(fails(act_on_unreachable(stack, pools, action)))),
         Action::Select { .. } | Action::Freeze { .. } | Action::Gather { .. } => {
-            act_on_many(stack, pools, action, room)
+            act_on_many(stack, pools, action, room)?;
+            Ok(Some(Next::Goes))
         }
         Action::Call { .. } | Action::Return { .. } => Ok(None),
         // No run stands at a phi.

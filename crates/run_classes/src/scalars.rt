@@ -86,7 +86,8 @@ pub fn act_on_binary(
     ensures { (a : Lists) → Acts (action_of pools.now a _action.now) result stack.old stack.new }
 {
     if divides(opcode) {
-        return act_on_division(stack, pools, _action, to, opcode, flags, width, left, right);
+        act_on_division(stack, pools, _action, to, opcode, flags, width, left, right)?;
+        return Ok(());
     }
     compute_told(stack, pools, _action, to, opcode, flags, width, left, right)
 }

@@ -59,7 +59,8 @@ impl<'m> Live<'m> {
         ensures kept { OnErr result (self.new.program.lists ≡ self.old.program.lists) }
     {
         if self.is_idle() {
-            return self.enter_idle();
+            let stop = self.enter_idle()?;
+            return Ok(stop);
         }
         Ok(None)
     }

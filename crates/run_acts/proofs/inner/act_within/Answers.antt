@@ -1,12 +1,11 @@
 use Rattle.std.proofs.Common.{◌≡◌, true, length, Option, Err, refl, ap}
-use Rattle.ir_memory.specs.Memory.{Blocks}
 use Rattle.module_arena.specs.Lists.{Lists}
 use Rattle.run_acts.specs.declared.next.Next.{Next}
 use Rattle.run_acts.specs.declared.next.Next.TheVariants.{Goes}
 use Rattle.run_rules.specs.Wants.{wants_memory}
 use Rattle.run_flat.specs.Flat.{action_of}
 use Rattle.run_acts.specs.Acting.{ComesInside}
-use Rattle.run_acts.proofs.AskedCalls.{if_ok, never_passed, outer_matched}
+use Rattle.run_acts.proofs.AskedCalls.{never_passed, outer_matched}
 use Rattle.run_acts.proofs.Coming.{accesses_want, acts_come, carried_comes, if_ok_all, on_err_all}
 use Rattle.run_acts.proofs.Staying.{accesses_come, accesses_stay, acts_stay, carried_stays, comes_inside, done_stays, is_inner, none_stays}
 use Rattle.run_acts.proofs.inner.act_within.Goals as goal
@@ -211,13 +210,8 @@ returns-in-Displace-clause-stays c =
 pub act_on_many-requires-clause-may : goal.act_on_many-requires-clause-may
 act_on_many-requires-clause-may c = (length c.args.memory.now.list, c.requires.may)
 
-pub returns-in-Select-clause-comes : goal.returns-in-Select-clause-comes
-returns-in-Select-clause-comes c =
-    let s = c.args.stack.now in
-    let m = c.args.memory.now in
-    let new = c.act_on_many.new.stack in
-    if_ok c.act_on_many.result (λ (next : Option Next). (n : Blocks) (lists : Lists) → ComesInside (action_of c.args.pools.now lists c.args.action.now) next s new n n)
-    (λ (next : Option Next). (lists : Lists) → ComesInside (action_of c.args.pools.now lists c.args.action.now) next s new m m) (λ next comes. comes m) c.act_on_many.ensures.comes
+pub returns-in_ok-act_on_many-in-Select-clause-comes : goal.returns-in_ok-act_on_many-in-Select-clause-comes
+returns-in_ok-act_on_many-in-Select-clause-comes c = c.in_ok-act_on_many-in-Select.ensures.comes c.args.memory.now
 
 -- ---- calls and returns
 
