@@ -226,7 +226,7 @@ pub record IsTypesBegun (texts : Texts) (left : List Piece) (known : ModuleAhead
 
 -- the same, if the block is of types and they may stand there
 abbrev pub MayBeTypes : ℕ → Texts → Sofar → List Piece → ModuleAhead → Type 0
-MayBeTypes id texts b left known = nat_eq id types_id ≡ true → records.may_follow b.last 5 ≡ true → IsTypesBegun texts left known
+MayBeTypes id texts b left known = nat_eq id types_id ≡ true → records.may_follow b.last records.types_rank ≡ true → IsTypesBegun texts left known
 
 -- what is known ahead of the body that is the next, where something is
 abbrev pub IsNextCounts : Sofar → LocalCounts → Type 0

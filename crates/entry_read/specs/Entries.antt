@@ -96,7 +96,7 @@ AnswersVariable texts old number in_order answer new =
     (s : records.Sofar) (operands : List ℕ)
     → IsInFront texts old s operands
     → number ≡ length s.variables
-    → in_order ≡ records.may_follow s.last 6
+    → in_order ≡ records.may_follow s.last records.variables_rank
     → IsToldNew old.growing.arena (entry.Variable number) s (judged (records.variable s.texts s.k) operands).0.name
     → Answers (ReadsVariable s.texts s.k operands old new) (records.variable_record s (judged (records.variable s.texts s.k) operands)) answer
 
@@ -106,7 +106,7 @@ AnswersFunction texts old number in_order answer new =
     (s : records.Sofar) (operands : List ℕ)
     → IsInFront texts old s operands
     → number ≡ length s.functions
-    → in_order ≡ records.may_follow s.last 7
+    → in_order ≡ records.may_follow s.last records.functions_rank
     → IsToldNew old.growing.arena (entry.Function number) s (records.function_named (judged (records.function s.texts s.k) operands))
     → Answers (ReadsFunction s.texts s.k operands old new) (records.function_record s (judged (records.function s.texts s.k) operands)) answer
 
@@ -117,7 +117,7 @@ AnswersAlias texts old number others in_order answer new =
     → IsInFront texts old s operands
     → number ≡ length s.aliases
     → others ≡ max (length s.variables) (length s.functions)
-    → in_order ≡ records.may_follow s.last 8
+    → in_order ≡ records.may_follow s.last records.aliases_rank
     → IsToldNew old.growing.arena (entry.Alias number) s (judged (records.alias s.texts s.k) operands).0.name
     → Answers (ReadsAlias s.texts s.k operands old new) (records.alias_record s (judged (records.alias s.texts s.k) operands)) answer
 

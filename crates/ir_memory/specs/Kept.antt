@@ -5,7 +5,7 @@ use Rattle.ir_memory.specs.declared.cell.Cell.{Cell}
 use Rattle.ir_memory.specs.declared.cell.Cell.TheVariants as cell
 use Rattle.ir_memory.specs.declared.memory.TheConstants.{GAP}
 use Rattle.ir_memory.specs.MemoryBlock.{MemoryBlock}
-use Rattle.ir_memory.specs.Memory.{live_bytes, byte_limit, first_address}
+use Rattle.ir_memory.specs.Memory.{live_bytes, byte_limit, first_address, addresses_end}
 use Rattle.ir_memory.specs.Given.{IsBlock}
 
 -- where the next live block may start: the gap behind a live one
@@ -29,4 +29,4 @@ AreKnown count blocks = All (λ b. All (IsKnownCell count) b.cells) blocks
 
 -- blocks are placed, so many bytes are live, and each piece is of a pointer whose block was made
 abbrev pub IsKept : List MemoryBlock → ℕ → ℕ → Type 0
-IsKept blocks next live = IsPlaced first_address blocks next × (live ≡ live_bytes blocks) × (live ≤ byte_limit) × (next < 2 ^ 62) × AreKnown (length blocks) blocks
+IsKept blocks next live = IsPlaced first_address blocks next × (live ≡ live_bytes blocks) × (live ≤ byte_limit) × (next < addresses_end) × AreKnown (length blocks) blocks

@@ -28,17 +28,29 @@ first_address = FIRST_ADDRESS
 abbrev pub no_blocks : Blocks
 no_blocks = record { list = []; next = first_address; sealed = false }
 
+-- up to here a block may begin, wherever it ends and whatever its alignment
+abbrev pub last_begin : ℕ
+last_begin = 2 ^ 61
+
+-- where all addresses of blocks end
+abbrev pub addresses_end : ℕ
+addresses_end = 2 ^ 62
+
 -- so many addresses are free that a block can be placed at the next one
 abbrev pub HasFreeAddresses : Blocks → Type 0
-HasFreeAddresses m = m.next ≤ 2 ^ 61
+HasFreeAddresses m = m.next ≤ last_begin
 
 -- how many bytes live blocks may have together
 abbrev pub byte_limit : ℕ
 byte_limit = BYTE_LIMIT
 
+-- more than the greatest alignment and the gap have together
+abbrev pub slack : ℕ
+slack = 2 ^ 17
+
 -- so far a block moves the next address at most: all bytes, the greatest alignment and the gap
 abbrev pub reach : ℕ
-reach = byte_limit + 2 ^ 17
+reach = byte_limit + slack
 
 -- how many bytes the live blocks have together
 abbrev pub live_bytes : List MemoryBlock → ℕ

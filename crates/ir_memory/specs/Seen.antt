@@ -19,7 +19,7 @@ use Rattle.ir_memory.specs.Cell.{integer, pointer}
 use Rattle.ir_memory.specs.declared.access.BlockPlace.{BlockPlace}
 use Rattle.ir_memory.specs.MemoryBlock.{MemoryBlock}
 use Rattle.ir_memory.specs.Kept.{IsPlaced}
-use Rattle.ir_memory.specs.Memory.{first_address}
+use Rattle.ir_memory.specs.Memory.{first_address, addresses_end}
 
 -- the piece at an address
 abbrev pub at : Pieces → ℕ → Option PointerPiece
@@ -78,7 +78,7 @@ pub record IsRoom (kept : List KeptBlock) (place : BlockPlace) (count : ℕ) : T
 -- a block is not marked as mixed
 pub record IsSound (pieces : ℕ → Option PointerPiece) (kept : List KeptBlock) (next : ℕ) : Type 0 where
   pub placed : IsPlaced first_address (all_seen pieces kept) next
-  pub small : next < 2 ^ 62
+  pub small : next < addresses_end
   pub whole : (k : ℕ) (d : KeptBlock) → k < length kept → length (slice_index_or kept k d).bytes ≡ (slice_index_or kept k d).size
   pub gone : (k : ℕ) (d : KeptBlock) → k < length kept → (slice_index_or kept k d).live ≡ false → (slice_index_or kept k d).bytes ≡ []
   pub ahead : (q : ℕ) → next ≤ q → pieces q ≡ None

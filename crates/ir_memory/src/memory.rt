@@ -83,7 +83,7 @@ impl Memory {
         ensures limit { result ≤ of.byte_limit }
         ensures placed { IsPlaced of.first_address self.now.list self.now.next }
         ensures known { AreKnown (length self.now.list) self.now.list }
-        ensures next { self.now.next < 2 ^ 62 }
+        ensures next { self.now.next < of.addresses_end }
     {
         self.live
     }

@@ -8,7 +8,7 @@ use Rattle.record_table.specs.Listed.{IsType, IsName, AreBytes}
 use Rattle.record_table.specs.FittingLines.{IfSome}
 use Rattle.record_table.specs.Faults.{Answer}
 use Rattle.record_table.specs.Bodies.{numbers_from}
-use Rattle.record_table.specs.Records.{Sofar, may_follow, is_new, types_of, parameters_of, module_of}
+use Rattle.record_table.specs.Records.{Sofar, may_follow, types_rank, variables_rank, functions_rank, aliases_rank, is_new, types_of, parameters_of, module_of}
 use Rattle.record_table.specs.Spelling.{texts_of, texts_in, numbering}
 use Rattle.record_bodies.specs.FittingBodies.{BodyFits}
 use Rattle.record_types.specs.ReadTypes.{TypesAreRead}
@@ -45,19 +45,19 @@ EachFits next fits g (x ∷ xs) = fits g x × EachFits next fits (next g x) xs
 
 -- what is there behind a variable
 abbrev pub after_variable : Globals → Variable → Globals
-after_variable g v = record g { at = suc g.at; last = 6; variables = g.variables ++ v ∷ [] }
+after_variable g v = record g { at = suc g.at; last = variables_rank; variables = g.variables ++ v ∷ [] }
 
 -- behind a function
 abbrev pub after_function : Globals → Function → Globals
-after_function g f = record g { at = suc g.at; last = 7; functions = g.functions ++ due f ∷ [] }
+after_function g f = record g { at = suc g.at; last = functions_rank; functions = g.functions ++ due f ∷ [] }
 
 -- behind an alias
 abbrev pub after_alias : Globals → Alias → Globals
-after_alias g a = record g { at = suc g.at; last = 8; aliases = g.aliases ++ a ∷ [] }
+after_alias g a = record g { at = suc g.at; last = aliases_rank; aliases = g.aliases ++ a ∷ [] }
 
 -- behind the block of types, before any of these
 abbrev pub none_yet : ℕ → Globals
-none_yet at = record { at = at; last = 5; variables = []; functions = []; aliases = [] }
+none_yet at = record { at = at; last = types_rank; variables = []; functions = []; aliases = [] }
 
 -- behind all variables
 abbrev pub behind_variables : List Variable → ℕ → Globals
@@ -72,7 +72,7 @@ module _ (s : Sofar) where
   abbrev pub VariableFollows : Globals → Variable → Type 0
   VariableFollows g v =
       VariableFits s.texts s.k v
-      × (may_follow g.last 6 ≡ true)
+      × (may_follow g.last variables_rank ≡ true)
       × (nat_lt (length g.variables) COUNT_LIMIT ≡ true)
       × (is_new (with_globals s g) v.name ≡ true)
 
@@ -80,11 +80,11 @@ module _ (s : Sofar) where
   abbrev pub FunctionFollows : Globals → Function → Type 0
   FunctionFollows g f =
       (IsName s.texts f.name × IsType s.k f.returns × AllByRecursion (IsType s.k) (types_of f))
-      × (may_follow g.last 7 ≡ true) × (nat_lt (length g.functions) COUNT_LIMIT ≡ true) × (is_new (with_globals s g) f.name ≡ true)
+      × (may_follow g.last functions_rank ≡ true) × (nat_lt (length g.functions) COUNT_LIMIT ≡ true) × (is_new (with_globals s g) f.name ≡ true)
 
   -- an alias that fits
   abbrev pub AliasFollows : Globals → Alias → Type 0
-  AliasFollows g a = AliasFits s.texts s.k a × (may_follow g.last 8 ≡ true)
+  AliasFollows g a = AliasFits s.texts s.k a × (may_follow g.last aliases_rank ≡ true)
       × (nat_le (suc (length g.aliases) + max (length g.variables) (length g.functions)) COUNT_LIMIT ≡ true) × (is_new (with_globals s g) a.name ≡ true)
 
 -- a declaration is what its record says; a body fits
@@ -114,7 +114,7 @@ abbrev pub behind_types : Module → ℕ → Sofar
 behind_types m at = record {
   texts = texts_in m;
   at = at;
-  last = 5;
+  last = types_rank;
   source = m.source;
   layout = m.layout;
   triple = m.triple;

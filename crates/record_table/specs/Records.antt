@@ -69,15 +69,53 @@ alias texts k = mapped (λ (n, (l, (t, of))). record { name = n; linkage = l; ty
     (λ a. (a.name, (a.linkage, (alias_type_parts a.ty, a.target))))
     (name texts & linkage & either (ty k) (ty k & truth & counted (ty k)) & target k)
 
--- What stands in the block of the module comes in this order: 1 VERSION, 2 SOURCE, 3 LAYOUT, 4 TRIPLE, 5 the types,
--- 6 VARIABLE, 7 FUNCTION, 8 ALIAS, 9 bodies. The first five stand there at most once, the first and the types always.
+-- What stands in the block of the module comes in this order, each by its rank. The first five stand there at most once, the first and the
+-- types always.
+
+-- VERSION
+abbrev pub version_rank : ℕ
+version_rank = 1
+
+-- SOURCE
+abbrev pub source_rank : ℕ
+source_rank = 2
+
+-- LAYOUT
+abbrev pub layout_rank : ℕ
+layout_rank = 3
+
+-- TRIPLE
+abbrev pub triple_rank : ℕ
+triple_rank = 4
+
+-- the block of types
+abbrev pub types_rank : ℕ
+types_rank = 5
+
+-- each VARIABLE
+abbrev pub variables_rank : ℕ
+variables_rank = 6
+
+-- each FUNCTION
+abbrev pub functions_rank : ℕ
+functions_rank = 7
+
+-- each ALIAS
+abbrev pub aliases_rank : ℕ
+aliases_rank = 8
+
+-- each body
+abbrev pub bodies_rank : ℕ
+bodies_rank = 9
+
+-- what has the one rank came last, or 0 where nothing came: whether what has the other may come next
 abbrev pub may_follow : ℕ → ℕ → Bool
 may_follow last next =
-    if nat_eq next 1 then nat_eq last 0
-    else (if nat_le next 5 then nat_le 1 last && nat_lt last next
-    else nat_le 5 last && nat_le last next)
+    if nat_eq next version_rank then nat_eq last 0
+    else (if nat_le next types_rank then nat_le version_rank last && nat_lt last next
+    else nat_le types_rank last && nat_le last next)
 
--- what is read so far: how texts stand, how many records of the stream, the place of what came last, the module (its
+-- what is read so far: how texts stand, how many records of the stream, the rank of what came last, the module (its
 -- functions with whether a body is due), and what indices stand for
 pub record Sofar : Type 0 where
   pub texts : Texts
@@ -118,7 +156,7 @@ at_first t at inside = record {
   k = known_at_first t inside;
 }
 
--- a record that stands at a place of the order, whose operands break that rule
+-- a record of that rank, whose operands break that rule
 abbrev pub record_at_place : Sofar → ℕ → Option ℕ → Sofar → Answer Sofar
 record_at_place s place broken after = unless_broken module_id s.at (also 5 (may_follow s.last place) broken) (record after { at = suc s.at; last = place })
 
@@ -126,8 +164,8 @@ record_at_place s place broken after = unless_broken module_id s.at (also 5 (may
 abbrev pub version_record : Sofar → List ℕ → Answer Sofar
 version_record s (n ∷ []) =
     if nat_eq s.last 0 && not (is_version n) then Err (BadVersion n)
-    else record_at_place s 1 (also 5 (nat_eq n s.texts.version) None) s
-version_record s operands = record_at_place s 1 (judged version operands).1 s
+    else record_at_place s version_rank (also 5 (nat_eq n s.texts.version) None) s
+version_record s operands = record_at_place s version_rank (judged version operands).1 s
 
 -- the name of no variable, function or alias that is there already
 abbrev pub is_new : Sofar → Bytes → Bool
@@ -138,19 +176,19 @@ is_new s n =
 -- VARIABLE
 abbrev pub variable_record : Sofar → Variable × Option ℕ → Answer Sofar
 variable_record s (declared, broken) =
-    record_at_place s 6 (also 7 (nat_lt (length s.variables) COUNT_LIMIT) (also 4 (is_new s declared.name) broken))
+    record_at_place s variables_rank (also 7 (nat_lt (length s.variables) COUNT_LIMIT) (also 4 (is_new s declared.name) broken))
     (record s { variables = s.variables ++ declared ∷ [] })
 
 -- FUNCTION
 abbrev pub function_record : Sofar → (Bool × Function) × Option ℕ → Answer Sofar
 function_record s (declared, broken) = let (defined, head) = declared in
-    record_at_place s 7 (also 7 (nat_lt (length s.functions) COUNT_LIMIT) (also 4 (is_new s head.name) broken))
+    record_at_place s functions_rank (also 7 (nat_lt (length s.functions) COUNT_LIMIT) (also 4 (is_new s head.name) broken))
     (record s { functions = s.functions ++ declared ∷ [] })
 
 -- the count for aliases is theirs and the greater of those of variables and functions
 abbrev pub alias_record : Sofar → Alias × Option ℕ → Answer Sofar
 alias_record s (declared, broken) =
-    record_at_place s 8
+    record_at_place s aliases_rank
     (also 7 (nat_le (suc (length s.aliases) + max (length s.variables) (length s.functions)) COUNT_LIMIT) (also 4 (is_new s declared.name) broken))
     (record s { aliases = s.aliases ++ declared ∷ [] })
 
@@ -177,29 +215,29 @@ give_body b ((false, f) ∷ fs) = (false, f) ∷ give_body b fs
 -- the block of a body
 abbrev pub body_block : Sofar → Records → Option Function → Answer Sofar
 body_block s inside None = misplaced body_id s.at
-body_block s inside (Some f) = body s.texts s.k (length f.parameters) s.at inside >>= λ b. Ok (record s { at = b.at; last = 9; functions = give_body b s.functions })
+body_block s inside (Some f) = body s.texts s.k (length f.parameters) s.at inside >>= λ b. Ok (record s { at = b.at; last = bodies_rank; functions = give_body b s.functions })
 
 -- the block of types
 abbrev pub types_block : Sofar → Records → Answer Sofar
 types_block s inside =
     listed s.texts s.at inside
     >>= λ all.
-    Ok (record s { at = all.at; last = 5; k = record s.k { types = trees all.types; structs = structs all.types } })
+    Ok (record s { at = all.at; last = types_rank; k = record s.k { types = trees all.types; structs = structs all.types } })
 
 -- a block by its id
 abbrev pub block_in : Sofar → ℕ → Records → Answer Sofar
 block_in s id inside =
-    if nat_eq id types_id && may_follow s.last 5 then types_block s inside
-    else (if nat_eq id body_id && may_follow s.last 9 then body_block s inside (first_due s.functions)
+    if nat_eq id types_id && may_follow s.last types_rank then types_block s inside
+    else (if nat_eq id body_id && may_follow s.last bodies_rank then body_block s inside (first_due s.functions)
     else misplaced id s.at)
 
 -- a record by its code
 abbrev pub record_in : Sofar → ℕ → List ℕ → Answer Sofar
 record_in s code operands =
     if nat_eq code 1 then version_record s operands
-    else (if nat_eq code 2 then text_record s 2 operands (λ x. record s { source = x })
-    else (if nat_eq code 3 then text_record s 3 operands (λ x. record s { layout = x })
-    else (if nat_eq code 4 then text_record s 4 operands (λ x. record s { triple = x })
+    else (if nat_eq code 2 then text_record s source_rank operands (λ x. record s { source = x })
+    else (if nat_eq code 3 then text_record s layout_rank operands (λ x. record s { layout = x })
+    else (if nat_eq code 4 then text_record s triple_rank operands (λ x. record s { triple = x })
     else (if nat_eq code 5 then variable_record s (judged (variable s.texts s.k) operands)
     else (if nat_eq code 6 then function_record s (judged (function s.texts s.k) operands)
     else (if nat_eq code 7 then alias_record s (judged (alias s.texts s.k) operands)
@@ -209,7 +247,7 @@ record_in s code operands =
 abbrev pub ended : Sofar → Answer Sofar
 ended s =
     if nat_eq s.last 0 then Err (BadRecord module_id s.at 5)
-    else (if nat_lt s.last 5 then Err (BadRecord types_id s.at 5)
+    else (if nat_lt s.last types_rank then Err (BadRecord types_id s.at 5)
     else (if is_some (first_due s.functions) then Err (BadRecord body_id s.at 5)
     else Ok s))
 

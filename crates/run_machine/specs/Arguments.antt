@@ -6,7 +6,7 @@ use Rattle.ir_eval.specs.declared.value.Scalar.TheVariants as scalar
 use Rattle.ir_memory.specs.declared.kind.BlockKind.TheVariants as kind
 use Rattle.ir_memory.specs.declared.leaf.Leaf.TheVariants as leaf
 use Rattle.ir_memory.specs.Given.{IsKnown}
-use Rattle.ir_memory.specs.Memory.{Blocks, byte_limit, reach}
+use Rattle.ir_memory.specs.Memory.{Blocks, byte_limit, reach, slack}
 use Rattle.run_rules.specs.Access.{next_block}
 use Rattle.run_rules.specs.Opening.{made}
 use Rattle.run_rules.specs.Plan.{Contents}
@@ -42,7 +42,7 @@ MakesWith expected None old new = expected ≡ Err MemoryLimit
 -- as far as the next address may be once all variables have their blocks: none ends further on than there are addresses
 -- of variables, and behind them the greatest alignment and the gap fit
 abbrev pub behind_variables : ℕ
-behind_variables = variables_end + 2 ^ 17
+behind_variables = variables_end + slack
 
 -- the same of several, which are no more than bytes may live; the next address is no further off than so many blocks allow
 pub record PlacesAll (expected : Result (Blocks × List Pointer) End) (ps : List Pointer) (old new : Blocks) : Type 0 where
