@@ -10,7 +10,8 @@ use Rattle.entry_copy.specs.Tables.{Tables}
 use Rattle.entry_fates.specs.declared.fates.Fate.{Fate}
 use Rattle.entry_fates.specs.Fates.{variable_as, function_as, made}
 use Rattle.entry_declare.specs.Declaring.{KeepsNames}
-use Rattle.entry_declare.specs.Stages.{same_name}
+use Rattle.entry_declare.specs.Stages.{same_name, with_variables}
+use Rattle.part_declare.specs.FunctionsThere.{with_functions}
 
 -- ---- one entry
 
@@ -57,6 +58,20 @@ BeginWithVariables fates variables rest found = found ≡ map without_initialise
 -- functions
 abbrev pub BeginWithFunctions : List Fate → List Function → List Function → List Function → Type 0
 BeginWithFunctions fates functions rest found = found ≡ map without_body (made function_as fates functions) ++ rest
+
+-- ---- what defining them makes of the module
+
+-- what the variables become stands initialised in front, and those behind it stay
+abbrev pub InitialisesVariables : List Fate → List Variable → (old new : Module) → Type 0
+InitialisesVariables fates variables old new =
+    (rest : List Variable) → BeginWithVariables fates variables rest old.variables
+    → new ≡ with_variables old (made variable_as fates variables ++ rest)
+
+-- what the functions become stands defined in front, and those behind it stay
+abbrev pub DefinesFunctions : List Fate → List Function → (old new : Module) → Type 0
+DefinesFunctions fates functions old new =
+    (rest : List Function) → BeginWithFunctions fates functions rest old.functions
+    → new ≡ with_functions old (made function_as fates functions ++ rest)
 
 -- ---- what stays
 

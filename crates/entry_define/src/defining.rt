@@ -1,13 +1,12 @@
 //! Bodies of functions that are kept.
-ghost use Rattle.std.specs.Prelude.{◌≡◌, ◌++◌, ◌+◌, ◌<◌, ◌≤◌, ℕ, List, length, slice_get, Some, None, IfOk, OnOk};
+ghost use Rattle.std.specs.Prelude.{◌≡◌, ◌+◌, ◌<◌, ◌≤◌, ℕ, List, length, slice_get, Some, None, IfOk, OnOk};
 ghost use Rattle.module_arena.specs.Module as m;
 ghost use Rattle.module_arena.specs.View.{module_of};
 ghost use Rattle.module_arena.specs.declared.entry.Function as the_function;
 ghost use Rattle.entry_copy.specs.Copies.{Copies};
-ghost use Rattle.entry_fates.specs.Fates.{function_as, made};
+ghost use Rattle.entry_fates.specs.Fates.{function_as};
 ghost use Rattle.entry_declare.specs.Stages.{same_name};
-ghost use Rattle.part_declare.specs.FunctionsThere.{with_functions};
-ghost use Rattle.entry_define.specs.Filling.{defined_as, behind_made, BeginWithFunctions, KeepsCopies};
+ghost use Rattle.entry_define.specs.Filling.{defined_as, behind_made, BeginWithFunctions, DefinesFunctions, KeepsCopies};
 ghost use Rattle.entry_define.specs.Naming.{NamesOfFunction};
 
 use entry_copy::Copier;
@@ -92,8 +91,7 @@ pub fn define_functions(
     requires declared { (rest : List m.Function) × BeginWithFunctions fates.now (module_of from.now).functions rest (module_of into.old.arena).functions }
     requires copies { Copies same_name same_name from.now into.old.arena copier.now }
     requires names { (id : ℕ) (f : m.Function) (fate : Fate) → slice_get (module_of from.now).functions id ≡ Some f → slice_get fates.now id ≡ Some fate → NamesOfFunction from.now copier.now fate f }
-    ensures module { (rest : List m.Function) → BeginWithFunctions fates.now (module_of from.now).functions rest (module_of into.old.arena).functions
-        → OnOk result (module_of into.new.arena ≡ with_functions (module_of into.old.arena) (made function_as fates.now (module_of from.now).functions ++ rest)) }
+    ensures module { OnOk result (DefinesFunctions fates.now (module_of from.now).functions (module_of into.old.arena) (module_of into.new.arena)) }
     ensures keeps { OnOk result (KeepsCopies into.old.arena into.new.arena) }
 {
     let mut next = 0;

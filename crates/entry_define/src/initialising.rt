@@ -1,5 +1,5 @@
 //! Initialisers of what variables become.
-ghost use Rattle.std.specs.Prelude.{◌≡◌, ◌++◌, ◌+◌, ◌<◌, ◌≤◌, ℕ, List, length, slice_get, Some, None, IfOk, OnOk, ◌≢◌};
+ghost use Rattle.std.specs.Prelude.{◌≡◌, ◌+◌, ◌<◌, ◌≤◌, ℕ, List, length, slice_get, Some, None, IfOk, OnOk, ◌≢◌};
 ghost use Rattle.extract_core.specs.Extracted.{declared_variable};
 ghost use Rattle.module_arena.specs.Module as m;
 ghost use Rattle.module_arena.specs.Module.Constants.{no_constants};
@@ -7,10 +7,10 @@ ghost use Rattle.module_arena.specs.View.{module_of};
 ghost use Rattle.module_arena.specs.declared.entry.Variable as the_variable;
 ghost use Rattle.type_build.specs.Stands.{IsConstant, Grows};
 ghost use Rattle.entry_copy.specs.Copies.{Copies};
-ghost use Rattle.entry_fates.specs.Fates.{variable_as, made};
-ghost use Rattle.entry_declare.specs.Stages.{same_name, with_variables};
+ghost use Rattle.entry_fates.specs.Fates.{variable_as};
+ghost use Rattle.entry_declare.specs.Stages.{same_name};
 ghost use Rattle.entry_copy.specs.Initialisers.{IsInitialiser};
-ghost use Rattle.entry_define.specs.Filling.{initialised_by, initialised_as, behind_made, BeginWithVariables, KeepsCopies};
+ghost use Rattle.entry_define.specs.Filling.{initialised_by, initialised_as, behind_made, BeginWithVariables, InitialisesVariables, KeepsCopies};
 ghost use Rattle.entry_define.specs.Naming.{NamesOfVariable};
 
 use entry_copy::{Copier, copied_initialiser};
@@ -148,8 +148,7 @@ pub fn initialise_variables(
     requires declared { (rest : List m.Variable) × BeginWithVariables fates.now (module_of from.now).variables rest (module_of into.old.arena).variables }
     requires copies { Copies same_name same_name from.now into.old.arena copier.now }
     requires names { (id : ℕ) (v : m.Variable) (fate : Fate) → slice_get (module_of from.now).variables id ≡ Some v → slice_get fates.now id ≡ Some fate → NamesOfVariable from.now copier.now fate v }
-    ensures module { (rest : List m.Variable) → BeginWithVariables fates.now (module_of from.now).variables rest (module_of into.old.arena).variables
-        → OnOk result (module_of into.new.arena ≡ with_variables (module_of into.old.arena) (made variable_as fates.now (module_of from.now).variables ++ rest)) }
+    ensures module { OnOk result (InitialisesVariables fates.now (module_of from.now).variables (module_of into.old.arena) (module_of into.new.arena)) }
     ensures keeps { OnOk result (KeepsCopies into.old.arena into.new.arena) }
 {
     let mut next = 0;
