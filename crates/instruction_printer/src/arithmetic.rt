@@ -7,8 +7,8 @@ ghost use Rattle.canonical.specs.Operations.{operation_phrase};
 ghost use Rattle.module_arena.specs.Module as m;
 ghost use Rattle.type_table.specs.Types.{tree};
 ghost use Rattle.phrase_printer.specs.Printing.{separator_of, Prints};
-ghost use Rattle.instruction_printer.specs.Named.{value_of, operand_of};
-ghost use Rattle.instruction_printer.specs.Parts.{HasThis, HasThisValue, pair};
+ghost use Rattle.instruction_printer.specs.Named.{operand_of};
+ghost use Rattle.instruction_printer.specs.Parts.{HasThis, HasThisValue, binary_of, comparison_of, pair, select_of};
 
 use crate::operands::{put_operand, put_value};
 use gathered::Gathered;
@@ -59,7 +59,7 @@ pub(crate) fn put_binary<S: Sink>(
 )
     requires left { HasThis arena.now function.now left }
     requires right { HasThisValue arena.now function.now right }
-    ensures { Prints (state out.old (S.taken sink.old) (S.faults sink.old)) (state out.new (S.taken sink.new) (S.faults sink.new)) (operation_phrase (m.BinaryOperation code flags (operand_of arena.now function.now left) (value_of arena.now function.now right)) (separator_of behind)) }
+    ensures { Prints (state out.old (S.taken sink.old) (S.faults sink.old)) (state out.new (S.taken sink.new) (S.faults sink.new)) (operation_phrase (binary_of arena.now function.now code flags left right) (separator_of behind)) }
 {
     put_opcode(out, sink, code);
     put_flags(out, sink, flags);
@@ -80,7 +80,7 @@ pub(crate) fn put_compare<S: Sink>(
 )
     requires left { HasThis arena.now function.now left }
     requires right { HasThisValue arena.now function.now right }
-    ensures { Prints (state out.old (S.taken sink.old) (S.faults sink.old)) (state out.new (S.taken sink.new) (S.faults sink.new)) (operation_phrase (m.Compare flags predicate (operand_of arena.now function.now left) (value_of arena.now function.now right)) (separator_of behind)) }
+    ensures { Prints (state out.old (S.taken sink.old) (S.faults sink.old)) (state out.new (S.taken sink.new) (S.faults sink.new)) (operation_phrase (comparison_of arena.now function.now flags predicate left right) (separator_of behind)) }
 {
     put_opcode(out, sink, Opcode::ICmp);
     put_flags(out, sink, flags);
@@ -123,7 +123,7 @@ pub(crate) fn put_select<S: Sink>(
     requires condition { HasThis arena.now function.now choice.now.condition }
     requires first { HasThis arena.now function.now choice.now.first }
     requires second { HasThis arena.now function.now choice.now.second }
-    ensures { Prints (state out.old (S.taken sink.old) (S.faults sink.old)) (state out.new (S.taken sink.new) (S.faults sink.new)) (operation_phrase (m.Select (operand_of arena.now function.now choice.now.condition) (operand_of arena.now function.now choice.now.first) (operand_of arena.now function.now choice.now.second)) (separator_of behind)) }
+    ensures { Prints (state out.old (S.taken sink.old) (S.faults sink.old)) (state out.new (S.taken sink.new) (S.faults sink.new)) (operation_phrase (select_of arena.now function.now choice.now) (separator_of behind)) }
 {
     put_opcode(out, sink, Opcode::Select);
     put_operand(

@@ -1,15 +1,15 @@
 //! Calls (LangRef, "'call' Instruction").
-ghost use Rattle.std.specs.Prelude.{◌<◌, length, map, All};
+ghost use Rattle.std.specs.Prelude.{◌<◌, length, All};
 ghost use Rattle.gathered.specs.Told.{state};
 ghost use Rattle.ir_lexer.specs.Pieces.{Space};
 ghost use Rattle.canonical.specs.Constants.{constant_phrase, value_phrase};
 ghost use Rattle.canonical.specs.Operations.{operation_phrase, signature_phrase};
-ghost use Rattle.module_arena.specs.Module as m;
+ghost use Rattle.module_arena.specs.declared.instruction.Inst.TheVariants as inst;
 ghost use Rattle.module_arena.specs.View.{constants_of, constant_at};
 ghost use Rattle.type_table.specs.Tree.{ptr};
 ghost use Rattle.phrase_printer.specs.Printing.{separator_of, Prints};
-ghost use Rattle.instruction_printer.specs.Named.{value_of, operand_of};
-ghost use Rattle.instruction_printer.specs.Parts.{HasThis, HasThisValue, signature_of, dotted_types};
+ghost use Rattle.instruction_printer.specs.Named.{value_of};
+ghost use Rattle.instruction_printer.specs.Parts.{HasThis, HasThisValue, operation_of, signature_of, dotted_types};
 
 use crate::arithmetic::put_opcode;
 use crate::operands::put_operands;
@@ -108,7 +108,7 @@ pub(crate) fn put_call<S: Sink>(
     requires parameters { All (λ part. part < length arena.now.table.types) call.now.signature.parameters }
     requires callee { HasThisValue arena.now function.now call.now.callee }
     requires arguments { All (HasThis arena.now function.now) call.now.arguments }
-    ensures { Prints (state out.old (S.taken sink.old) (S.faults sink.old)) (state out.new (S.taken sink.new) (S.faults sink.new)) (operation_phrase (m.Call (signature_of arena.now call.now.signature) (value_of arena.now function.now call.now.callee) (map (operand_of arena.now function.now) call.now.arguments)) (separator_of behind)) }
+    ensures { Prints (state out.old (S.taken sink.old) (S.faults sink.old)) (state out.new (S.taken sink.new) (S.faults sink.new)) (operation_phrase (operation_of arena.now function.now (inst.Call call.now)) (separator_of behind)) }
 {
     let returns = call.signature.returns;
     put_opcode(out, sink, Opcode::Call);

@@ -7,6 +7,7 @@ ghost use Rattle.canonical.specs.Phrase.{each};
 ghost use Rattle.module_arena.specs.Lists.{Lists, function_blocks};
 ghost use Rattle.module_arena.specs.Mentions.{end_operands_of, targets_of};
 ghost use Rattle.module_arena.specs.Module as m;
+ghost use Rattle.module_arena.specs.declared.instruction.Ending.TheVariants as ends;
 ghost use Rattle.phrase_printer.specs.Printing.{separator_of, Prints};
 ghost use Rattle.instruction_printer.specs.Named.{operand_of, label_of};
 ghost use Rattle.instruction_printer.specs.Parts.{HasThis};
@@ -72,7 +73,7 @@ fn put_branch<S: Sink>(
     requires condition { HasThis arena.now function.now condition }
     requires then_to { then_to < length (function_blocks function.now) }
     requires else_to { else_to < length (function_blocks function.now) }
-    ensures { Prints (state out.old (S.taken sink.old) (S.faults sink.old)) (state out.new (S.taken sink.new) (S.faults sink.new)) (ending_phrase (m.Branch (operand_of arena.now function.now condition) (label_of arena.now function.now then_to) (label_of arena.now function.now else_to)) (separator_of behind)) }
+    ensures { Prints (state out.old (S.taken sink.old) (S.faults sink.old)) (state out.new (S.taken sink.new) (S.faults sink.new)) (ending_phrase (ending_of arena.now function.now (ends.Branch condition then_to else_to)) (separator_of behind)) }
 {
     put_token(out, sink, b"br", Separator::Space);
     put_operand(out, sink, arena, function, condition, Separator::Nothing);
@@ -134,7 +135,7 @@ fn put_switch<S: Sink>(
     requires part { HasThis arena.now function.now part }
     requires otherwise { otherwise < length (function_blocks function.now) }
     requires cases { All (HasCase arena.now function.now) cases.now }
-    ensures { Prints (state out.old (S.taken sink.old) (S.faults sink.old)) (state out.new (S.taken sink.new) (S.faults sink.new)) (ending_phrase (m.Switch (operand_of arena.now function.now part) (label_of arena.now function.now otherwise) (map (case_of arena.now function.now) cases.now)) (separator_of behind)) }
+    ensures { Prints (state out.old (S.taken sink.old) (S.faults sink.old)) (state out.new (S.taken sink.new) (S.faults sink.new)) (ending_phrase (ending_of arena.now function.now (ends.Switch part otherwise cases.now)) (separator_of behind)) }
 {
     put_token(out, sink, b"switch", Separator::Space);
     put_operand(out, sink, arena, function, part, Separator::Nothing);

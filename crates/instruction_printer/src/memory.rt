@@ -1,13 +1,14 @@
 //! Memory and addresses (LangRef, "Memory Access and Addressing Operations").
-ghost use Rattle.std.specs.Prelude.{◌<◌, length, map, All, Some, None, option_map, option_to_list};
+ghost use Rattle.std.specs.Prelude.{◌<◌, length, All, Some, None, option_map, option_to_list};
 ghost use Rattle.gathered.specs.Told.{state};
 ghost use Rattle.canonical.specs.Constants.{operand};
 ghost use Rattle.canonical.specs.Operations.{operation_phrase, aligned};
 ghost use Rattle.module_arena.specs.Module as m;
+ghost use Rattle.module_arena.specs.declared.instruction.Inst.TheVariants as inst;
 ghost use Rattle.type_table.specs.Types.{tree};
 ghost use Rattle.phrase_printer.specs.Printing.{separator_of, Prints};
 ghost use Rattle.instruction_printer.specs.Named.{operand_of};
-ghost use Rattle.instruction_printer.specs.Parts.{HasThis};
+ghost use Rattle.instruction_printer.specs.Parts.{HasThis, element_address_of, operation_of};
 
 use crate::alignment::{before_alignment, put_alignment};
 use crate::arithmetic::put_opcode;
@@ -80,7 +81,7 @@ pub(crate) fn put_store<S: Sink>(
 )
     requires stored { HasThis arena.now function.now stored }
     requires address { HasThis arena.now function.now address }
-    ensures { Prints (state out.old (S.taken sink.old) (S.faults sink.old)) (state out.new (S.taken sink.new) (S.faults sink.new)) (operation_phrase (m.Store flags (operand_of arena.now function.now stored) (operand_of arena.now function.now address) alignment) (separator_of behind)) }
+    ensures { Prints (state out.old (S.taken sink.old) (S.faults sink.old)) (state out.new (S.taken sink.new) (S.faults sink.new)) (operation_phrase (operation_of arena.now function.now (inst.Store flags stored address alignment)) (separator_of behind)) }
 {
     put_opcode(out, sink, Opcode::Store);
     put_flags(out, sink, flags);
@@ -169,7 +170,7 @@ pub(crate) fn put_element_address<S: Sink>(
     requires source { source < length arena.now.table.types }
     requires base { HasThis arena.now function.now base }
     requires indices { All (HasThis arena.now function.now) indices.now }
-    ensures { Prints (state out.old (S.taken sink.old) (S.faults sink.old)) (state out.new (S.taken sink.new) (S.faults sink.new)) (operation_phrase (m.GetElementPtr flags (tree arena.now.table source) (operand_of arena.now function.now base) (map (operand_of arena.now function.now) indices.now)) (separator_of behind)) }
+    ensures { Prints (state out.old (S.taken sink.old) (S.faults sink.old)) (state out.new (S.taken sink.new) (S.faults sink.new)) (operation_phrase (element_address_of arena.now function.now flags source base indices.now) (separator_of behind)) }
 {
     put_opcode(out, sink, Opcode::GetElementPtr);
     put_address_flags(out, sink, flags);

@@ -4,7 +4,7 @@ ghost use Rattle.canonical.specs.Operations.{operation_phrase};
 ghost use Rattle.module_arena.specs.Module as m;
 ghost use Rattle.phrase_printer.specs.Printing.{separator_of, Prints};
 ghost use Rattle.instruction_printer.specs.Named.{operand_of};
-ghost use Rattle.instruction_printer.specs.Parts.{HasThis};
+ghost use Rattle.instruction_printer.specs.Parts.{HasThis, insertion_of};
 
 use crate::arithmetic::put_opcode;
 use crate::indices::put_indices;
@@ -52,7 +52,7 @@ pub(crate) fn put_insert<S: Sink>(
 )
     requires aggregate { HasThis arena.now function.now insertion.now.aggregate }
     requires part { HasThis arena.now function.now insertion.now.part }
-    ensures { Prints (state out.old (S.taken sink.old) (S.faults sink.old)) (state out.new (S.taken sink.new) (S.faults sink.new)) (operation_phrase (m.InsertValue (operand_of arena.now function.now insertion.now.aggregate) (operand_of arena.now function.now insertion.now.part) insertion.now.indices) (separator_of behind)) }
+    ensures { Prints (state out.old (S.taken sink.old) (S.faults sink.old)) (state out.new (S.taken sink.new) (S.faults sink.new)) (operation_phrase (insertion_of arena.now function.now insertion.now) (separator_of behind)) }
 {
     let indices = insertion.indices.as_slice();
     put_opcode(out, sink, Opcode::InsertValue);
