@@ -20,3 +20,8 @@ pub record KnowsStructs (parts : List Module) (i : ℕ) (a : Lists) (t : Tables)
 -- each struct of the part, whose lists are a, has its body in the arena b
 abbrev pub AreDone : List Module → Lists → Lists → Tables → Type 0
 AreDone parts a b t = (id : ℕ) → id < length a.table.structs → IsDone (link_result parts).structs b (tables.new_struct t id)
+
+-- each struct of the linked module that has its body in b has it in c as well
+abbrev pub KeepsDone : List Module → (b c : Lists) → Type 0
+KeepsDone parts b c =
+    (other : ℕ) → other < length (link_result parts).structs → IsDone (link_result parts).structs b other → IsDone (link_result parts).structs c other

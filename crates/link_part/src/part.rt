@@ -11,7 +11,7 @@ ghost use Rattle.entry_copy.specs.Copies.{CopiesTypes};
 ghost use Rattle.entry_copy.specs.Tables as tables;
 ghost use Rattle.entry_copy.specs.Tables.{Tables, with_types};
 ghost use Rattle.link_part.specs.Bodies.{GivesBody, IsMaking};
-ghost use Rattle.link_part.specs.Named.{AreDone};
+ghost use Rattle.link_part.specs.Named.{AreDone, KeepsDone};
 
 use entry_copy::Copier;
 use linked_bodies::structs_keep_bodies;
@@ -41,8 +41,7 @@ fn give_body(
     ensures more { OnOk result (length copier.old.types ≤ length copier.new.types) }
     ensures still { (naming : Bytes → Bytes) (a : Lists) (t : Tables) → CopiesTypes naming a into.old.arena t → OnOk result (CopiesTypes naming a into.new.arena t) }
     ensures done { (ms : List Module) (i : ℕ) → IsMaking ms i from.now into.old.arena copier.old → GivesBody ms i from.now new body.now → OnOk result (IsDone (link_result ms).structs into.new.arena new) }
-    ensures kept { (ms : List Module) (i other : ℕ) → IsMaking ms i from.now into.old.arena copier.old → GivesBody ms i from.now new body.now → other < length (link_result ms).structs
-        → IsDone (link_result ms).structs into.old.arena other → OnOk result (IsDone (link_result ms).structs into.new.arena other) }
+    ensures kept { (ms : List Module) (i : ℕ) → IsMaking ms i from.now into.old.arena copier.old → GivesBody ms i from.now new body.now → OnOk result (KeepsDone ms into.old.arena into.new.arena) }
 {
     let count = from.types().type_count();
     copier.copy_types(alloc, from, into, behind_body(count, body))?;
@@ -70,8 +69,7 @@ fn define_struct(
     ensures more { OnOk result (length copier.old.types ≤ length copier.new.types) }
     ensures still { (naming : Bytes → Bytes) (a : Lists) (t : Tables) → CopiesTypes naming a into.old.arena t → OnOk result (CopiesTypes naming a into.new.arena t) }
     ensures done { (ms : List Module) (i : ℕ) → IsMaking ms i from.now into.old.arena copier.old → OnOk result (IsDone (link_result ms).structs into.new.arena (tables.new_struct copier.old id)) }
-    ensures kept { (ms : List Module) (i other : ℕ) → IsMaking ms i from.now into.old.arena copier.old → other < length (link_result ms).structs
-        → IsDone (link_result ms).structs into.old.arena other → OnOk result (IsDone (link_result ms).structs into.new.arena other) }
+    ensures kept { (ms : List Module) (i : ℕ) → IsMaking ms i from.now into.old.arena copier.old → OnOk result (KeepsDone ms into.old.arena into.new.arena) }
 {
     // The names of the structs are apart.
     let _good = from.types().type_count();
@@ -102,8 +100,7 @@ fn before_type(
     ensures entries { OnOk result (entries into.new.arena ≡ entries into.old.arena) }
     ensures others { OnOk result (copier.new ≡ with_types copier.old copier.new.types) }
     ensures still { (naming : Bytes → Bytes) (a : Lists) (t : Tables) → CopiesTypes naming a into.old.arena t → OnOk result (CopiesTypes naming a into.new.arena t) }
-    ensures kept { (ms : List Module) (i other : ℕ) → IsMaking ms i from.now into.old.arena copier.old → other < length (link_result ms).structs
-        → IsDone (link_result ms).structs into.old.arena other → OnOk result (IsDone (link_result ms).structs into.new.arena other) }
+    ensures kept { (ms : List Module) (i : ℕ) → IsMaking ms i from.now into.old.arena copier.old → OnOk result (KeepsDone ms into.old.arena into.new.arena) }
 {
     // Each type of a table has its parts in the table.
     let _good = from.types().type_count();
@@ -130,8 +127,7 @@ fn copy_type(
     ensures others { OnOk result (copier.new ≡ with_types copier.old copier.new.types) }
     ensures still { (naming : Bytes → Bytes) (a : Lists) (t : Tables) → CopiesTypes naming a into.old.arena t → OnOk result (CopiesTypes naming a into.new.arena t) }
     ensures copied { OnOk result (ty + 1 ≤ length copier.new.types) }
-    ensures kept { (ms : List Module) (i other : ℕ) → IsMaking ms i from.now into.old.arena copier.old → other < length (link_result ms).structs
-        → IsDone (link_result ms).structs into.old.arena other → OnOk result (IsDone (link_result ms).structs into.new.arena other) }
+    ensures kept { (ms : List Module) (i : ℕ) → IsMaking ms i from.now into.old.arena copier.old → OnOk result (KeepsDone ms into.old.arena into.new.arena) }
 {
     // There is a number behind that of each type.
     let _count = from.types().type_count();
@@ -156,8 +152,7 @@ pub fn copy_part(
     ensures still { (naming : Bytes → Bytes) (a : Lists) (t : Tables) → CopiesTypes naming a into.old.arena t → OnOk result (CopiesTypes naming a into.new.arena t) }
     ensures all { OnOk result (length copier.new.types ≡ length from.now.table.types) }
     ensures done { (ms : List Module) (i : ℕ) → IsMaking ms i from.now into.old.arena copier.old → OnOk result (AreDone ms from.now into.new.arena copier.new) }
-    ensures kept { (ms : List Module) (i other : ℕ) → IsMaking ms i from.now into.old.arena copier.old → other < length (link_result ms).structs
-        → IsDone (link_result ms).structs into.old.arena other → OnOk result (IsDone (link_result ms).structs into.new.arena other) }
+    ensures kept { (ms : List Module) (i : ℕ) → IsMaking ms i from.now into.old.arena copier.old → OnOk result (KeepsDone ms into.old.arena into.new.arena) }
 {
     'copied: for number in 0..from.types().type_count() {
         copy_type(copier, alloc, from, into, TypeId::new(number))?;

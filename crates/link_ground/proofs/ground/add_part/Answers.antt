@@ -43,7 +43,7 @@ returns-clause-made c =
     let step = c.in_ok-copy_part.ensures in
     subst (IsMade parts b1) (sym c.in_ok-push.ensures.items)
     (made_more parts part a b b1 before numbers t c.requires.made c.arena_of-from.ensures.arena c.requires.next (step.making ms part is) (step.others ∙ ap (λ (x : Tables). with_types x t.types) start) step.all (step.done ms part is)
-    (λ naming x y h. step.still naming x y h) (λ other below done. step.kept ms part other is below done))
+    (λ naming x y h. step.still naming x y h) (step.kept ms part is))
 
 pub returns-clause-one : goal.returns-clause-one
 returns-clause-one c =

@@ -17,7 +17,7 @@ copied-init c = record {
   unchanged = refl;
   others = refl;
   still = λ naming a t h. h;
-  kept = λ ms i other is below done. done;
+  kept = λ ms i is other below done. done;
 }
 
 pub copy_type-requires-clause-making : goal.copy_type-requires-clause-making
@@ -41,7 +41,7 @@ copied-preserved c =
       unchanged = step.entries ∙ old.unchanged;
       others = step.others ∙ ap (λ t. with_types t c.copy_type.new.copier.types) old.others;
       still = λ naming a t h. step.still naming a t (old.still naming a t h);
-      kept = λ ms i other is below done. step.kept ms i other (old.making ms i is) below (old.kept ms i other is below done);
+      kept = λ ms i is other below done. step.kept ms i (old.making ms i is) other below (old.kept ms i is other below done);
     }
 
 pub defined-init : goal.defined-init
@@ -88,10 +88,10 @@ defined-preserved c =
       unchanged = step.entries ∙ old.unchanged;
       others = step.others ∙ ap (λ x. with_types x c.define_struct.new.copier.types) old.others;
       still = λ naming x y h. step.still naming x y (old.still naming x y h);
-      kept = λ ms i other is below done. step.kept ms i other (old.making ms i is) below (old.kept ms i other is below done);
+      kept = λ ms i is other below done. step.kept ms i (old.making ms i is) other below (old.kept ms i is other below done);
       done = λ ms i id is lt.
           done_next ms i a b t is c.defined.into.arena c.define_struct.new.into.arena c.defined.copier c.defined.number last old.others (λ k before. old.done ms i k is before)
-          (λ other below done. step.kept ms i other (old.making ms i is) below done)
+          (step.kept ms i (old.making ms i is))
           (subst (λ (k : ℕ). IsDone (link_result ms).structs c.define_struct.new.into.arena (new_struct c.defined.copier k)) c.new-in-defined.ensures (step.done ms i (old.making ms i is))) id lt;
     }
 

@@ -9,6 +9,7 @@ use Rattle.entry_copy.specs.Copies.{CopiesTypes}
 use Rattle.entry_copy.specs.Tables.{Tables, new_struct, with_types}
 use Rattle.item_build.specs.Partly.{IsDone, with_structs}
 use Rattle.link_part.specs.Bodies.{IsMaking}
+use Rattle.link_part.specs.Named.{KeepsDone}
 use Rattle.link_part.proofs.part.copy_part.Given as goal
 
 abbrev pub invariant-copied : goal.invariant-copied
@@ -20,7 +21,7 @@ invariant-copied l = record {
   unchanged : entries l.into.arena ≡ entries l.fn.into.arena;
   others : l.copier ≡ with_types l.fn.copier l.copier.types;
   still : (naming : Bytes → Bytes) (a : Lists) (t : Tables) → CopiesTypes naming a l.fn.into.arena t → CopiesTypes naming a l.into.arena t;
-  kept : (ms : List Module) (i other : ℕ) → IsMaking ms i l.from l.fn.into.arena l.fn.copier → other < length (link_result ms).structs → IsDone (link_result ms).structs l.fn.into.arena other → IsDone (link_result ms).structs l.into.arena other;
+  kept : (ms : List Module) (i : ℕ) → IsMaking ms i l.from l.fn.into.arena l.fn.copier → KeepsDone ms l.fn.into.arena l.into.arena;
 }
 
 abbrev pub invariant-defined : goal.invariant-defined
@@ -32,6 +33,6 @@ invariant-defined l = record {
   unchanged : entries l.into.arena ≡ entries l.fn.into.arena;
   others : l.copier ≡ with_types l.fn.copier l.copier.types;
   still : (naming : Bytes → Bytes) (a : Lists) (t : Tables) → CopiesTypes naming a l.fn.into.arena t → CopiesTypes naming a l.into.arena t;
-  kept : (ms : List Module) (i other : ℕ) → IsMaking ms i l.from l.fn.into.arena l.fn.copier → other < length (link_result ms).structs → IsDone (link_result ms).structs l.fn.into.arena other → IsDone (link_result ms).structs l.into.arena other;
+  kept : (ms : List Module) (i : ℕ) → IsMaking ms i l.from l.fn.into.arena l.fn.copier → KeepsDone ms l.fn.into.arena l.into.arena;
   done : (ms : List Module) (i id : ℕ) → IsMaking ms i l.from l.fn.into.arena l.fn.copier → id < l.number → IsDone (link_result ms).structs l.into.arena (new_struct l.fn.copier id);
 }

@@ -49,5 +49,5 @@ pub returns-clause-copied : goal.returns-clause-copied
 returns-clause-copied c = let many = c.in_ok-copy_types.ensures.count in omega (arith, many)
 
 pub returns-clause-kept : goal.returns-clause-kept
-returns-clause-kept c ms i other is below done =
-    done_still (link_result ms).structs c.before_type.new.into.arena c.copy_types.new.into.arena other c.in_ok-copy_types.ensures.grows (c.in_ok-before_type.ensures.kept ms i other is below done)
+returns-clause-kept c ms i is other below done =
+    done_still (link_result ms).structs c.before_type.new.into.arena c.copy_types.new.into.arena other c.in_ok-copy_types.ensures.grows (c.in_ok-before_type.ensures.kept ms i is other below done)

@@ -70,7 +70,7 @@ returns-in-Some-struct_body-clause-done c ms i is =
     subst (λ (new : ℕ). OnOk c.give_body.result (IsDone (link_result ms).structs c.give_body.new.into.arena new)) c.new_struct-new.ensures (c.give_body.ensures.done ms i is given)
 
 pub returns-in-Some-struct_body-clause-kept : goal.returns-in-Some-struct_body-clause-kept
-returns-in-Some-struct_body-clause-kept c ms i other is below done =
+returns-in-Some-struct_body-clause-kept c ms i is =
     let a = c.args.from.now in
     let b = c.args.into.now.arena in
     let t = c.args.copier.now in
@@ -79,7 +79,7 @@ returns-in-Some-struct_body-clause-kept c ms i other is below done =
     let here = (λ j. slice_get (bodies ((sym c.types-in-None.ensures) j)) id) ∙ c.in-Some-struct_body.ensures in
     let body = c.in-Some-struct_body.body.now in
     let given = subst (λ (new : ℕ). GivesBody ms i a new body) (sym c.new_struct-new.ensures) (gives ms i a b t is id c.requires.known good c.structs_keep_bodies.ensures body here) in
-    c.give_body.ensures.kept ms i other is given below done
+    c.give_body.ensures.kept ms i is given
 
 pub returns-in-None-struct_body-clause-module : goal.returns-in-None-struct_body-clause-module
 returns-in-None-struct_body-clause-module c = same_structs c.args.into.now.arena

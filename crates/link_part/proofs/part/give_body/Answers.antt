@@ -88,7 +88,7 @@ returns-in-Ok-clause-done c ms i is gives =
     (done_after ms i a c.args.into.now.arena c.copy_types.new.into.arena c.args.copier.now c.copy_types.new.self c.args.new c.args.body.now c.in_ok-copy.copy is gives step.grows within step.others copies made)
 
 pub returns-in-Ok-clause-kept : goal.returns-in-Ok-clause-kept
-returns-in-Ok-clause-kept c ms i other is gives below done =
+returns-in-Ok-clause-kept c ms i is gives other below done =
     let a = c.args.from.now in
     let step = c.in_ok-copy_types.ensures in
     let many = step.count in
