@@ -10,7 +10,7 @@ use Rattle.ir_lexer.specs.Lexer.{Lexing, rest, Says, Stays, advanced, skipped, a
 use Rattle.ir_lexer.proofs.Gaps.{took, behind_gap, StepIs, step_is, Ends, at_end, at_byte, ends, gap_ends}
 
 -- the rest behind the gap
-rest_skipped : (l : Lexing) → rest (skipped l) ≡ drop (gap_length false (rest l)) (rest l)
+pub rest_skipped : (l : Lexing) → rest (skipped l) ≡ drop (gap_length false (rest l)) (rest l)
 unfolding skipped
 rest_skipped l = sym (drop-drop (gap_length false (rest l)) l.at l.text)
 

@@ -1,5 +1,5 @@
 -- The table of the classes is the one of their definition.
-use Rattle.std.proofs.Common.{◌≡◌, ℕ, zero, suc, ◌+◌, ◌<◌, List, [], ◌∷◌, length, map, get_or, Bool, true, false, not, ◌||◌, ◌==◌, nat_le, inl, inr, refl, arith, ap, ◌∙◌, add-zero, zero-add}
+use Rattle.std.proofs.Common.{◌≡◌, ℕ, zero, suc, ◌+◌, ◌<◌, List, [], ◌∷◌, length, map, get_or, Bool, true, not, ◌||◌, ◌==◌, nat_le, inl, inr, refl, arith, ap, ◌∙◌, add-zero, zero-add}
 use Rattle.std.proofs.lemmas.List.Folds.{list_all_at}
 use Rattle.std.specs.List.{list_all}
 use Rattle.ir_lexer.specs.Class.{byte_class}

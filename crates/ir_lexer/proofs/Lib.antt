@@ -16,3 +16,5 @@ pub mod Examples
 pub mod KnownRuns
 pub mod Placing
 pub mod Lines
+pub mod Plain
+pub mod Answered

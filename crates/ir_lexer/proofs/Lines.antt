@@ -1,7 +1,7 @@
 -- A token without a string stands in one line.
 use Rattle.std.proofs.lemmas.List.{length-take-le}
 use Rattle.std.proofs.lemmas.Map.Views.{exact_unsigned_eq}
-use Rattle.std.proofs.Common.{◌≡◌, ℕ, suc, ◌+◌, ◌==◌, ◌&&◌, List, [], ◌∷◌, ◌++◌, ◌≤◌, ◌<◌, length, take, drop, get_or, drop-cons, Bool, true, false, inl, inr, refl, sym, ap, ◌∙◌, arith}
+use Rattle.std.proofs.Common.{◌≡◌, ℕ, suc, ◌+◌, ◌==◌, List, [], ◌∷◌, ◌++◌, ◌≤◌, ◌<◌, length, take, drop, get_or, drop-cons, Bool, true, false, inl, inr, refl, sym, ap, ◌∙◌, arith}
 use Rattle.ir_base.specs.declared.place.Place.{Place}
 use Rattle.ir_lexer.specs.Class.{byte_class, in_line, is_quote}
 use Rattle.ir_lexer.specs.Form.{each, Form, Done, One, Run, Upto, Spells}

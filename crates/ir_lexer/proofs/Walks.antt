@@ -1,5 +1,5 @@
 -- Steps of the loops.
-use Rattle.std.proofs.Common.{◌≡◌, ℕ, suc, ◌+◌, ◌≤◌, ◌<◌, List, [], ◌∷◌, ◌++◌, length, drop, get_or, Bool, true, false, not, inl, inr, refl, sym, ap, ◌∙◌, arith, cond, Option, Some, None, add-one, drop-cons, length-drop, ◌==◌, ◌||◌, append_assoc, append-nil}
+use Rattle.std.proofs.Common.{◌≡◌, ℕ, suc, ◌+◌, ◌≤◌, ◌<◌, List, [], ◌∷◌, ◌++◌, length, drop, get_or, Bool, true, false, inl, inr, refl, sym, ap, ◌∙◌, arith, cond, Option, Some, None, add-one, drop-cons, length-drop, ◌==◌, ◌||◌, append_assoc, append-nil}
 use Rattle.std.proofs.Math.ListN.{drop_of_length-le}
 use Rattle.std.proofs.lemmas.List.{drop-drop}
 use Rattle.ir_lexer.specs.declared.quoted.Unescaped.{Unescaped}

@@ -1,7 +1,6 @@
 -- For `next` of `Lexer`, and how the code reads: the separators and comments at the front of a text.
-use Rattle.std.specs.Prelude.{ℕ, suc, Bool, true, false, not, ◌||◌, cond, List, [], ◌∷◌, Option, Some, None}
+use Rattle.std.specs.Prelude.{ℕ, suc, Bool, true, false, not, ◌||◌, cond, List, [], ◌∷◌}
 use Rattle.ir_lexer.specs.Class.{byte_class, is_blank, is_semicolon, is_line_feed}
-use Rattle.ir_lexer.specs.declared.class.Class.{Class}
 
 -- how many bytes of separators and comments stand at the front, where a comment is open or not
 unfoldable pub gap_length : Bool → List ℕ → ℕ

@@ -89,3 +89,10 @@ abbrev pub Stays : Result (Option Token) BadByte → Lexing → Type 0
 Stays (Ok (Some t)) next = Unit {0}
 Stays (Ok None) next = (answer next ≡ Ok None) × (after next ≡ next)
 Stays (Err e) next = (answer next ≡ Err e) × (after next ≡ next)
+
+-- the token is what the lexer answers, and it then stands behind it
+pub record IsAnswered (l : Lexing) (t : Token) (next : Lexing) : Type 0 where
+  pub answer : answer l ≡ Ok (Some t)
+  pub after : next ≡ after l
+  pub says : Says l (Ok (Some t)) next
+  pub placed : IsPlaced l (Ok (Some t)) next

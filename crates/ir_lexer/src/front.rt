@@ -1,14 +1,15 @@
 //! The token at the front of a text, by its first byte.
-ghost use Rattle.std.specs.Prelude.{◌≡◌, ◌+◌, ◌≤◌, length, take, IfSome};
-ghost use Rattle.ir_lexer.specs.Class.{in_word};
+ghost use Rattle.std.specs.Prelude.{◌≡◌, ◌+◌, ◌≤◌, length, take, true, false, Some, IfSome};
+ghost use Rattle.ir_lexer.specs.Class.{in_word, is_digit, is_percent, starts_with, starts_word};
 ghost use Rattle.ir_lexer.specs.Form.{longest, run};
 ghost use Rattle.ir_lexer.specs.Front.{next_token, token_from};
 ghost use Rattle.ir_lexer.specs.Label.{KnownRun};
+ghost use Rattle.ir_lexer.specs.Lines.{has_string_in};
 ghost use Rattle.ir_lexer.specs.Table.{IsToken, Label, tail_of};
 ghost use Rattle.ir_lexer.specs.declared.class.Class.TheVariants.{Quote, LetterC, Letter, Digit, Minus, Dollar, Dot, At, Percent, Bang, Hash};
 
 use crate::class::{Class, ClassSet, class_of};
-use crate::label::label_unless;
+use crate::label::{is_ended_word, label_unless};
 use crate::quoted::{inside_of, label_inside_of, quoted_name_of, text_of};
 use crate::run::{begins, digits_of, dots_of, identifier_of, letter_word_of, run_of};
 use crate::token::TokenKind;
@@ -192,4 +193,73 @@ pub fn fitting_token_of(known: usize, word: usize, text: &[u8]) -> Option<(Token
     ensures spelled { IfSome result (λ found. IsToken found.0 (take found.1 text.now)) }
 {
     token_of(known, word, text)
+}
+
+/// The length of the word at the front, where the byte behind it tells that it ends there. None says nothing.
+#[inline(always)]
+fn plain_word(text: &[u8]) -> Option<usize>
+    requires begins { starts_with starts_word text.now ≡ true }
+    ensures { IfSome result (λ n. Some (TokenKind.Word, n) ≡ next_token text.now) }
+{
+    let behind = &text[1..];
+    let word = 1 + run_of(ClassSet::InWord, behind);
+    if begins(ClassSet::Quotes, behind) || !is_ended_word(word, text) {
+        return None;
+    }
+    Some(word)
+}
+
+/// The length of the digits at the front, where the byte behind them tells that they end there. None says nothing.
+#[inline(always)]
+fn plain_digits(text: &[u8]) -> Option<usize>
+    requires begins { starts_with is_digit text.now ≡ true }
+    ensures { IfSome result (λ n. Some (TokenKind.Integer, n) ≡ next_token text.now) }
+{
+    let behind = &text[1..];
+    let word = 1 + run_of(ClassSet::InWord, behind);
+    if !is_ended_word(word, text) {
+        return None;
+    }
+    let count = run_of(ClassSet::Digits, behind);
+    Some(1 + count)
+}
+
+/// What begins with `%`, where no string stands behind it. None says nothing.
+#[inline(always)]
+fn plain_local(text: &[u8]) -> Option<(TokenKind, usize)>
+    requires begins { starts_with is_percent text.now ≡ true }
+    ensures token { IfSome result (λ found. Some found ≡ next_token text.now) }
+    ensures plain { IfSome result (λ found. has_string_in found.0 (take found.1 text.now) ≡ false) }
+{
+    let behind = &text[1..];
+    let digits = run_of(ClassSet::Digits, behind);
+    if digits > 0 {
+        return Some((TokenKind::UnnamedLocal, 1 + digits));
+    }
+    if !begins(ClassSet::StartsName, behind) {
+        return None;
+    }
+    let name = run_of(ClassSet::InName, behind);
+    Some((TokenKind::LocalName, 1 + name))
+}
+
+/// The kind and the length of the token at the front, which has no string in it, where few bytes tell them: those of a
+/// mark, a word, an integer or a local. None says nothing.
+#[inline(always)]
+pub fn plain_token_of(text: &[u8]) -> Option<(TokenKind, usize)>
+    ensures token { IfSome result (λ found. Some found ≡ next_token text.now) }
+    ensures plain { IfSome result (λ found. has_string_in found.0 (take found.1 text.now) ≡ false) }
+{
+    if text.is_empty() {
+        return None;
+    }
+    match class_of(text[0]) {
+        Class::Mark => Some((TokenKind::Punctuation, 1)),
+        Class::Letter | Class::LetterC | Class::Underscore => {
+            Some((TokenKind::Word, plain_word(text)?))
+        }
+        Class::Digit => Some((TokenKind::Integer, plain_digits(text)?)),
+        Class::Percent => plain_local(text),
+        _ => None,
+    }
 }

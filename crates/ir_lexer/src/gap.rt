@@ -28,11 +28,13 @@ pub fn gap_of(place: Place, bytes: &[u8]) -> (usize, Place)
 {
     let mut n = 0;
     let mut here = place;
-    'gap: while n < bytes.len() && may_begin_gap(bytes[n]) {
+    'gap: while n < bytes.len() {
         // Nearly all that stands between tokens is a space.
         if bytes[n] == b' ' {
             here = place_in_line(here, 1);
             n += 1;
+        } else if !may_begin_gap(bytes[n]) {
+            return (n, here);
         } else {
             match class_of(bytes[n]) {
                 Class::Blank => {

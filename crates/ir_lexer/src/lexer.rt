@@ -1,18 +1,19 @@
 //! A lexer: it goes over a text that it borrows, token by token.
-ghost use Rattle.std.specs.Prelude.{◌≡◌, ◌≤◌, length, take, IfSome};
+ghost use Rattle.std.specs.Prelude.{◌≡◌, ◌≤◌, length, take, false, None, IfSome};
 ghost use Rattle.ir_lexer.specs.Class.{in_word};
 ghost use Rattle.ir_lexer.specs.Form.{run};
 ghost use Rattle.ir_lexer.specs.Front.{next_token};
+ghost use Rattle.ir_lexer.specs.Gap.{gap_length};
 ghost use Rattle.ir_lexer.specs.Label.{KnownRun};
 ghost use Rattle.ir_lexer.specs.Place.{place_of, place_after};
 ghost use Rattle.ir_lexer.specs.Table.{IsToken};
-ghost use Rattle.ir_lexer.specs.Lexer.{at_start, rest, token_spelling, Says, IsPlaced, Stays, answer, after, advanced, skipped, token_at, is_nil};
+ghost use Rattle.ir_lexer.specs.Lexer.{at_start, rest, token_spelling, Says, IsPlaced, IsAnswered, Stays, answer, after, advanced, skipped, token_at, is_nil};
 
 use crate::class::ClassSet;
-use crate::front::fitting_token_of;
+use crate::front::{fitting_token_of, plain_token_of};
 use crate::gap::gap_of;
 use crate::label::{is_ended_word, run_without_label};
-use crate::place::place_behind_token;
+use crate::place::{place_behind_token, place_in_line};
 use crate::run::{begins, run_of};
 use crate::token::{BadByte, Token, TokenKind};
 use ir_base::Place;
@@ -69,13 +70,24 @@ impl<'t> Lexer<'t> {
         self.at += n;
     }
 
+    /// The length of the separators and comments here, and the place behind them.
+    #[inline(always)]
+    fn gap(&self) -> (usize, Place)
+        ensures length { result.0 ≡ gap_length false (rest self.now) }
+        ensures in_rest { result.0 ≤ length (rest self.now) }
+        ensures place { result.1 ≡ place_after (place_of self.now.text self.now.at) (take result.0 (rest self.now)) }
+        ensures within { self.now.at ≤ length self.now.text }
+    {
+        gap_of(self.place, &self.text[self.at..])
+    }
+
     /// Goes over separators and comments.
     #[tactic(auto, unfolding(crate::specs::Lexer::skipped))]
     fn skip(&mut self)
         ensures skipped { self.new ≡ skipped self.old }
         ensures within { self.old.at ≤ length self.old.text }
     {
-        let (gap, place) = gap_of(self.place, &self.text[self.at..]);
+        let (gap, place) = self.gap();
         self.advance(gap, place);
     }
 
@@ -201,6 +213,26 @@ impl<'t> Lexer<'t> {
         ensures after { self.new ≡ after self.old }
     {
         self.read()
+    }
+
+    /// The next token, as `next` answers it, where few bytes tell it: nearly all are of this kind. Else None, and the lexer
+    /// stands where it stood.
+    #[inline(always)]
+    pub fn next_plain(&mut self) -> Option<Token>
+        ensures answered { IfSome result (λ token. IsAnswered self.old token self.new) }
+        ensures none { result ≡ None → self.new ≡ self.old }
+        ensures text { self.new.text ≡ self.old.text }
+    {
+        let (gap, place) = self.gap();
+        let start = self.at + gap;
+        let (kind, count) = plain_token_of(&self.text[start..])?;
+        self.advance(gap + count, place_in_line(place, count));
+        Some(Token {
+            kind,
+            place,
+            start,
+            end: start + count,
+        })
     }
 
     /// The bytes of a token. Its start and end lie in the text, in this order.

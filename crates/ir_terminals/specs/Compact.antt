@@ -10,7 +10,7 @@ stored_bytes (Long text) = text.value
 
 -- no more bytes are counted than stand in a word
 abbrev pub IsShort : Stored → Type 0
-IsShort (Short count bytes) = count ≤ 7
+IsShort (Short count bytes) = count ≤ 14
 IsShort (Long text) = Unit {0}
 
 -- these bytes are kept

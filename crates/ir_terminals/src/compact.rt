@@ -8,18 +8,18 @@ use std::alloc::{AllocError, Global};
 use std::marker::Model;
 
 /// How many bytes stand in a word beside their count.
-const SHORT: usize = 7;
+const SHORT: usize = 14;
 
 /// A count of bytes that stand here, and the bytes with room behind them; or bytes behind a box.
 #[derive(Drop)]
 enum Stored {
     /// How many bytes there are, and the bytes, with room behind them.
-    Short(u8, [u8; 7]),
+    Short(u8, [u8; 14]),
     /// More bytes than have room here.
     Long(Box<Text>),
 }
 
-/// Bytes of any values that do not change, in 16 bytes: up to 7 of them stand in it, more stand behind a box.
+/// Bytes of any values that do not change, in 16 bytes: up to 14 of them stand in it, more stand behind a box.
 #[derive(Drop)]
 pub struct CompactText {
     stored: Stored,
@@ -70,7 +70,7 @@ impl CompactText {
     }
 }
 
-/// A name that does not change, in 16 bytes: up to 7 bytes stand in it, more stand behind a box.
+/// A name that does not change, in 16 bytes: up to 14 bytes stand in it, more stand behind a box.
 ///
 /// ```
 /// let name = CompactName::from_slice(alloc, b"main")?;
@@ -122,10 +122,10 @@ impl CompactName {
 
 /// So few bytes, as they stand in a word.
 fn short_of(given: &[u8]) -> Stored
-    requires { length given.now ≤ 7 }
+    requires { length given.now ≤ 14 }
     ensures { IsKept result given.now }
 {
-    let mut bytes = [0u8; 7];
+    let mut bytes = [0u8; 14];
     for i in 0..given.len() {
         bytes[i] = given[i];
     }

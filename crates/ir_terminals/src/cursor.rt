@@ -50,10 +50,10 @@ impl<'t> Model for Cursor<'t> {
     ghost invariant = { λ cursor. IsAt cursor.lexer cursor.front cursor.taken cursor.behind_less };
 }
 
-/// Puts what the lexer answers next where it is kept. It alone asks the lexer, so that this can be compiled into it, and
-/// it is called, so that no place that takes a token holds a copy of it.
+/// Puts what the lexer answers next where it is kept, whatever that is. Few answers come here, so that this stands apart.
+#[cold]
 #[inline(never)]
-fn next_front(lexer: &mut Lexer, front: &mut NextTerminal)
+fn any_front(lexer: &mut Lexer, front: &mut NextTerminal)
     ensures { IsFrontOf lexer.old front.new lexer.new }
 {
     match lexer.next() {
@@ -63,6 +63,21 @@ fn next_front(lexer: &mut Lexer, front: &mut NextTerminal)
         }
         Ok(None) => *front = NextTerminal::End,
         Err(bad) => *front = NextTerminal::Bad(bad.place),
+    }
+}
+
+/// Puts what the lexer answers next where it is kept. Nearly all that it answers are tokens that few bytes tell. The look
+/// for these is compiled into this, which is called, so that no place that takes a token holds a copy of it.
+#[inline(never)]
+fn next_front(lexer: &mut Lexer, front: &mut NextTerminal)
+    ensures { IsFrontOf lexer.old front.new lexer.new }
+{
+    match lexer.next_plain() {
+        Some(token) => {
+            let terminal = terminal_of(token.kind, lexer.spelling(&token));
+            *front = NextTerminal::Token(token, terminal);
+        }
+        None => any_front(lexer, front),
     }
 }
 

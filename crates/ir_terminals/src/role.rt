@@ -21,6 +21,7 @@ fn width_terminal(width: Option<u64>) -> Terminal
 }
 
 /// What an `i` is with these bytes behind it, if they are digits.
+#[inline(always)]
 fn integer_type(digits: &[u8]) -> Option<Terminal>
     ensures { result ≡ option_map of_width (width_in (105 ∷ digits.now)) }
 {
@@ -37,6 +38,7 @@ fn integer_type(digits: &[u8]) -> Option<Terminal>
 }
 
 /// What a word is.
+#[inline(always)]
 fn word_terminal(word: &[u8]) -> Terminal
     ensures { result ≡ word_terminal word.now }
 {
@@ -52,6 +54,7 @@ fn word_terminal(word: &[u8]) -> Terminal
 }
 
 /// What a mark is.
+#[inline(always)]
 fn mark_terminal(spelling: &[u8]) -> Terminal
     ensures { result ≡ meaning_in marks spelling.now }
 {
@@ -72,6 +75,7 @@ fn mark_terminal(spelling: &[u8]) -> Terminal
 }
 
 /// What a token of this kind and spelling is to the phrases of the language.
+#[inline(always)]
 #[tactic(auto, unfolding(crate::specs::Role::terminal))]
 pub fn terminal_of(kind: TokenKind, spelling: &[u8]) -> Terminal
     ensures { result ≡ terminal (record { kind = kind; spelling = spelling.now }) }

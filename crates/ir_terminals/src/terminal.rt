@@ -4,7 +4,8 @@ ghost use Rattle.ir_terminals.specs.Terminal.{code, first_word_class, linkage_cl
 
 use ir_tables::{Flag, Linkage, Opcode, Predicate};
 
-/// The role of a token in the phrases of the language, by its kind and, for a word or a mark, by its spelling.
+/// The role of a token in the phrases of the language, by its kind and, for a word or a mark, by its spelling. All but the
+/// last stand in the order of their codes, so that a code is found without a table.
 ///
 /// ```
 /// Terminal::Comma.code() // 12
@@ -72,8 +73,6 @@ pub enum Terminal {
     Global,
     /// `constant`.
     Constant,
-    /// `alias`.
-    Alias,
     /// `declare`.
     Declare,
     /// `define`.
@@ -136,6 +135,8 @@ pub enum Terminal {
     Flag(Flag),
     /// `eq`, `slt`.
     Predicate(Predicate),
+    /// `alias`.
+    Alias,
     /// `add`, `ret`.
     Opcode(Opcode),
 }

@@ -222,6 +222,7 @@ fn rows() -> &'static [Word]
 }
 
 /// What the word is by the rows. One row alone is compared with it.
+#[inline(always)]
 pub(crate) fn listed_terminal(word: &[u8]) -> Terminal
     requires { 0 < length word.now }
     ensures { result ≡ meaning_in words_by_role word.now }

@@ -121,15 +121,15 @@ returns-in_default c =
     let off = gap_off s l.n c.gap-test.true (rw c.class_of.ensures at not_one.0) (rw c.class_of.ensures at not_one.1) in
     record { length = omega (arith, l.invariant.count, off); in_bytes = l.invariant.within; place = l.invariant.place }
 
-pub returns-after-gap-clause-length : goal.returns-after-gap-clause-length
-returns-after-gap-clause-length c = omega (arith, c.gap.invariant.count, gap_at_end c.args.bytes.now c.gap.n c.gap-test.false)
+pub returns-clause-length : goal.returns-clause-length
+returns-clause-length c = omega (arith, c.gap.invariant.count, gap_at_end c.args.bytes.now c.gap.n c.gap-test.false)
 
-pub returns-else-may_begin_gap-clause-length : goal.returns-else-may_begin_gap-clause-length
-returns-else-may_begin_gap-clause-length c =
+pub returns-then-not-may_begin_gap-clause-length : goal.returns-then-not-may_begin_gap-clause-length
+returns-then-not-may_begin_gap-clause-length c =
     let l = c.gap in
     let s = c.args.bytes.now in
     let none : in_gap (get_or s l.n 0) ≡ false = elim (bool_cases (in_gap (get_or s l.n 0))) [
-      | inl e ↦ absurd (let k = c.may_begin_gap.ensures e in let j = c.if-may_begin_gap.false in cc)
+      | inl e ↦ absurd (let k = c.may_begin_gap.ensures e in let j = c.if-not-may_begin_gap.true in cc)
       | inr e ↦ e
     ] in
     omega (arith, l.invariant.count, gap_none s l.n c.gap-test.true none)

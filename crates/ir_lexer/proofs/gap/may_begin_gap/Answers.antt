@@ -1,4 +1,4 @@
-use Rattle.std.proofs.Common.{◌≡◌, ◌<◌, ◌==◌, true, false, nat_le, arith}
+use Rattle.std.proofs.Common.{◌≡◌, ◌==◌, true, false, nat_le, arith}
 use Rattle.std.proofs.lemmas.Bool.Decides.{nat_tests}
 use Rattle.ir_lexer.proofs.ClassTable.{gap_begins}
 use Rattle.ir_lexer.proofs.gap.may_begin_gap.Goals as goal

@@ -5,5 +5,5 @@ use Rattle.ir_terminals.proofs.compact.short_of.Given as goal
 abbrev pub invariant-loop-i : goal.invariant-loop-i
 invariant-loop-i l = record {
   same : take l.i l.bytes ≡ take l.i l.given;
-  room : length l.bytes ≡ 7;
+  room : length l.bytes ≡ 14;
 }

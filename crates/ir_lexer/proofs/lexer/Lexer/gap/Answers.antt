@@ -1,11 +1,10 @@
-use Rattle.std.proofs.Common.{◌-◌, ◌+◌, ◌≤◌, length, take, drop, arith, length-drop}
-use Rattle.std.proofs.lemmas.List.{length-take-le}
+use Rattle.std.proofs.Common.{length, drop, arith, length-drop}
 use Rattle.ir_base.proofs.Pieces.{rest_whole}
 use Rattle.ir_lexer.proofs.Placing.{room}
-use Rattle.ir_lexer.proofs.lexer.Lexer.skip.Goals as goal
+use Rattle.ir_lexer.proofs.lexer.Lexer.gap.Goals as goal
 
-pub gap_of-gap-requires-clause-line : goal.gap_of-gap-requires-clause-line
-gap_of-gap-requires-clause-line c =
+pub gap_of-requires-clause-line : goal.gap_of-requires-clause-line
+gap_of-requires-clause-line c =
     let r = c.self.inside in
     let s = r.text.now in
     let i = c.self.invariant in
@@ -13,9 +12,9 @@ gap_of-gap-requires-clause-line c =
     let has = room s r.at (length (drop r.at s)) r.place i.2 (omega (arith, i.0, size)) i.1 in
     rw (rest_whole r.at s) has.line
 
-pub gap_of-gap-requires-clause-column :
-    goal.gap_of-gap-requires-clause-column
-gap_of-gap-requires-clause-column c =
+pub gap_of-requires-clause-column :
+    goal.gap_of-requires-clause-column
+gap_of-requires-clause-column c =
     let r = c.self.inside in
     let s = r.text.now in
     let i = c.self.invariant in
@@ -23,8 +22,8 @@ gap_of-gap-requires-clause-column c =
     let has = room s r.at (length (drop r.at s)) r.place i.2 (omega (arith, i.0, size)) i.1 in
     rw (rest_whole r.at s) has.column
 
-pub gap_of-gap-requires-clause-first : goal.gap_of-gap-requires-clause-first
-gap_of-gap-requires-clause-first c =
+pub gap_of-requires-clause-first : goal.gap_of-requires-clause-first
+gap_of-requires-clause-first c =
     let r = c.self.inside in
     let i = c.self.invariant in
     (room r.text.now r.at 0 r.place i.2 (omega (arith, i.0)) i.1).first
