@@ -16,6 +16,7 @@ use std::alloc::AllocError;
 /// Enters a function that has a body and so many leaves: its frame begins, unless all frames would weigh too much then.
 ///
 /// It is refused for want of memory alone, and then the frames are as they were.
+#[inline(always)]
 pub(crate) fn enter(
     program: &mut Program<'_>,
     stack: &mut Stack,

@@ -47,6 +47,7 @@ fn status(value: &[Scalar]) -> Stop
 }
 
 /// The newest function is left, and its value goes to the one below. Where none is below and nothing is due, it was main.
+#[inline(always)]
 fn leave_with(stack: &mut Stack, memory: &mut Memory, value: &[Scalar], is_last: bool) -> Next
     requires running { IsRunning stack.old.frames }
     requires known { All (IsKnown memory.old.list) (newest stack.old.frames).allocas }

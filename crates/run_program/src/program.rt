@@ -124,7 +124,24 @@ impl<'m> Program<'m> {
     }
 
     /// What a call asks of a function that has a body. It is refused for want of memory alone.
+    #[inline]
     pub fn head(&mut self, id: FunctionId) -> Result<FrameNeeds, AllocError>
+        requires { HasCode self.old.lists (callees.Code id) }
+        ensures head { IfOk result (HasHead self.new id) }
+        ensures keeps { Keeps self.old self.new }
+    {
+        if let Some(head) = self.heads[id.number() as usize] {
+            return Ok(head);
+        }
+        let head = self.find_head(id)?;
+        Ok(head)
+    }
+
+    /// The same, and it is found and kept where it is not there yet: once a function, so that this stands apart from what each call
+    /// does.
+    #[cold]
+    #[inline(never)]
+    fn find_head(&mut self, id: FunctionId) -> Result<FrameNeeds, AllocError>
         requires { HasCode self.old.lists (callees.Code id) }
         ensures head { IfOk result (HasHead self.new id) }
         ensures keeps { Keeps self.old self.new }
@@ -140,7 +157,25 @@ impl<'m> Program<'m> {
 
     /// Decodes the body of a function that has one, unless it is there already, and tells how many leaves an edge of it sets at most. It
     /// is refused for want of memory alone, and wants none the second time.
+    #[inline]
     pub fn prepare(&mut self, id: FunctionId) -> Result<u32, AllocError>
+        requires code { HasCode self.old.lists (callees.Code id) }
+        ensures ready { IfOk result (λ widest. (body : Decoded) × (IsReady self.new id body × (body.widest ≡ widest))) }
+        ensures keeps { Keeps self.old self.new }
+        ensures again { (body : Decoded) → IsReady self.old id body → IsOk result }
+    {
+        if let Some(body) = &self.bodies[id.number() as usize] {
+            return Ok(body.widest());
+        }
+        let widest = self.decode(id)?;
+        Ok(widest)
+    }
+
+    /// The same, and the body is decoded where it is not there yet: once a function, so that this stands apart from what each call
+    /// does.
+    #[cold]
+    #[inline(never)]
+    fn decode(&mut self, id: FunctionId) -> Result<u32, AllocError>
         requires code { HasCode self.old.lists (callees.Code id) }
         ensures ready { IfOk result (λ widest. (body : Decoded) × (IsReady self.new id body × (body.widest ≡ widest))) }
         ensures keeps { Keeps self.old self.new }

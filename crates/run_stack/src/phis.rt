@@ -31,10 +31,10 @@ fn spread(leaves: &mut [Scalar], first: usize, scratch: &[Scalar], moves: &[Move
     }
 }
 
-/// Each phi of the frame whose leaves begin at `first` gets what it was to get before any of them did.
+/// Each phi of the frame whose leaves begin at `first` gets what it was to get before any of them did, by way of the scratch.
 #[tactic(auto, using(crate::proofs::Assigned::spread_gathered))]
 #[inline(never)]
-pub fn assign(leaves: &mut [Scalar], first: usize, scratch: &mut [Scalar], moves: &[Move])
+fn assign_together(leaves: &mut [Scalar], first: usize, scratch: &mut [Scalar], moves: &[Move])
     requires there { first ≤ length leaves.old }
     requires within { All (IsMoveIn (length leaves.old - first)) moves.now }
     requires room { length moves.now ≤ length scratch.old }
@@ -43,4 +43,21 @@ pub fn assign(leaves: &mut [Scalar], first: usize, scratch: &mut [Scalar], moves
 {
     gather(leaves, first, scratch, moves);
     spread(leaves, first, scratch, moves);
+}
+
+/// Each phi of the frame whose leaves begin at `first` gets what it was to get before any of them did. One alone needs no scratch.
+#[inline(always)]
+pub fn assign(leaves: &mut [Scalar], first: usize, scratch: &mut [Scalar], moves: &[Move])
+    requires there { first ≤ length leaves.old }
+    requires within { All (IsMoveIn (length leaves.old - first)) moves.now }
+    requires room { length moves.now ≤ length scratch.old }
+    ensures assigned { leaves.new ≡ moved first (drop first leaves.old) moves.now leaves.old }
+    ensures long { length scratch.new ≡ length scratch.old }
+{
+    if let [only] = moves {
+        let leaf = read_at(leaves, first, &only.from);
+        leaves[first + only.to as usize] = leaf;
+    } else {
+        assign_together(leaves, first, scratch, moves);
+    }
 }

@@ -4,7 +4,7 @@ use Rattle.run_body.specs.Bodies.{Decoded}
 use Rattle.run_program.specs.Loaded.{IsBodyOf, IsReady}
 use Rattle.run_program.proofs.Growing.{loaded_grown}
 use Rattle.run_program.proofs.Made.{body_absent, body_place, keeps_prepared, loaded_prepared, none_ready, set_there}
-use Rattle.run_program.proofs.program.Program.prepare.Goals as goal
+use Rattle.run_program.proofs.program.Program.decode.Goals as goal
 
 absent_by : (o : Option Decoded) → ((b : Decoded) → o ≡ Some b → ⊥) → o ≡ None
 absent_by None h = refl

@@ -2,7 +2,7 @@ use Rattle.std.proofs.Common.{ℕ, sym, subst, arith}
 use Rattle.run_program.specs.Loaded.{IsHead}
 use Rattle.run_program.proofs.Growing.{loaded_grown}
 use Rattle.run_program.proofs.Made.{head_place, loaded_with}
-use Rattle.run_program.proofs.program.Program.head.Goals as goal
+use Rattle.run_program.proofs.program.Program.find_head.Goals as goal
 
 pub invariant_of-self : goal.invariant_of-self
 invariant_of-self c =
