@@ -1,6 +1,6 @@
 -- Says how the code reads: how blocks are kept, and how they are seen: bytes of which some are poison, under pieces of
 -- pointers.
-use Rattle.std.specs.Prelude.{◌≡◌, ℕ, ◌+◌, ◌<◌, ◌≤◌, ◌^◌, List, [], length, map, replicate, Bool, true, false, ◌||◌, Option, Some, None, slice_index_or}
+use Rattle.std.specs.Prelude.{◌≡◌, ℕ, ◌+◌, ◌<◌, ◌≤◌, List, [], length, map, replicate, Bool, true, false, ◌||◌, Option, Some, None, slice_index_or}
 use Rattle.std.specs.Ordering.{nat_cmp}
 use Rattle.std.specs.BTreeMap as tree
 use Rattle.pointer_pieces.specs.declared.piece.PointerPiece.{PointerPiece}

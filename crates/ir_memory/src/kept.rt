@@ -1,12 +1,12 @@
 //! One block as memory keeps it.
-ghost use Rattle.std.specs.Prelude.{◌≡◌, ◌≢◌, ◌+◌, ◌^◌, ◌<◌, ◌≤◌, ◌&&◌, nat_le, IfOk, IfSome, ℕ, Option, true, false};
+ghost use Rattle.std.specs.Prelude.{◌≡◌, ◌≢◌, ◌+◌, ◌^◌, ◌<◌, ◌≤◌, ◌&&◌, nat_le, IfSome, Some, ℕ, Option, replicate, true, false};
 ghost use Rattle.ir_memory.specs.MemoryBlock as block;
 ghost use Rattle.ir_memory.specs.Seen.{fresh, ended_block, seen};
 ghost use Rattle.pointer_pieces.specs.declared.piece.PointerPiece.{PointerPiece};
 
 use crate::BlockKind;
 use masked_bytes::MaskedBytes;
-use std::alloc::{AllocError, Global};
+use std::alloc::Global;
 
 /// A run of addresses: its bytes, of which some may be poison, and whether pieces of pointers may stand there.
 /// A block that has ended has no bytes.
@@ -21,23 +21,20 @@ pub struct KeptBlock {
 }
 
 impl KeptBlock {
-    /// A live block of zeros.
-    pub fn new(
-        alloc: Global,
-        start: u64,
-        size: u64,
-        kind: BlockKind,
-    ) -> Result<KeptBlock, AllocError>
-        ensures { IfOk result (λ b. b ≡ fresh start size kind) }
+    /// A live block of these bytes, which are zeros.
+    #[inline]
+    pub fn new(start: u64, size: u64, kind: BlockKind, bytes: MaskedBytes) -> KeptBlock
+        requires { bytes ≡ replicate size (Some 0) }
+        ensures { result ≡ fresh start size kind }
     {
-        Ok(KeptBlock {
+        KeptBlock {
             start,
             size,
             kind,
             live: true,
-            bytes: MaskedBytes::new(alloc, size as usize)?,
+            bytes,
             mixed: false,
-        })
+        }
     }
 
     /// What is left of a block that has ended.

@@ -29,6 +29,7 @@ mod leaf;
 mod memory;
 mod page;
 mod read;
+mod spare;
 mod starts;
 mod table;
 mod write;

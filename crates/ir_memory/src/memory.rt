@@ -16,12 +16,14 @@ use crate::access::{BlockPlace, Request, access, plain_access, started};
 use crate::copy::{copy_cells, meets};
 use crate::kept::KeptBlock;
 use crate::read::{has_pieces, read_at};
+use crate::spare::Spare;
 use crate::starts::{forget, note};
 use crate::table::BlockTable;
 use crate::write::{clear, write_many, write_number, write_pointer, write_poison};
 use crate::{BlockKind, Leaf, MemoryFault};
 use ir_eval::{Pointer, Scalar};
 use ir_tables::UndefinedKind;
+use masked_bytes::MaskedBytes;
 use pointer_pieces::Pieces;
 use std::alloc::{AllocError, Global};
 use std::marker::Model;
@@ -42,6 +44,7 @@ pub struct Memory {
     alloc: Global,
     kept: BlockTable,
     pieces: Pieces,
+    spare: Spare,
     starts: Vec<u64>,
     next: u64,
     sealed: bool,
@@ -70,6 +73,7 @@ impl Memory {
             alloc,
             kept: BlockTable::new(alloc),
             pieces: Pieces::new(alloc),
+            spare: Spare::new(alloc),
             starts: Vec::new(alloc),
             next: FIRST_ADDRESS,
             sealed: false,
@@ -118,7 +122,8 @@ impl Memory {
         }
         let start = round_up(self.next, align);
         let index = self.kept.len();
-        let block = KeptBlock::new(self.alloc, start, size, kind)?;
+        let bytes = self.spare.zeros(self.alloc, size as usize)?;
+        let block = KeptBlock::new(start, size, kind, bytes);
         note(&mut self.starts, index, start)?;
         if let Err(fault) = self.kept.push(block) {
             forget(&mut self.starts, index);
@@ -146,7 +151,8 @@ impl Memory {
         };
         let block = self.kept.get(index);
         self.live -= block.size;
-        end(&mut self.kept, &mut self.pieces, index);
+        let bytes = end(&mut self.kept, &mut self.pieces, index);
+        self.spare.keep(bytes);
         Ok(())
     }
 
@@ -435,8 +441,8 @@ fn write_leaf(
     Ok(())
 }
 
-/// Ends a live block: its bytes and the pieces in it are given up.
-fn end(kept: &mut BlockTable, pieces: &mut Pieces, index: usize)
+/// Ends a live block: the pieces in it are given up, and what it had of bytes comes back.
+fn end(kept: &mut BlockTable, pieces: &mut Pieces, index: usize) -> MaskedBytes
     requires index { index < length kept.old }
     requires live { IsLiveAt kept.old index }
     requires sound { (next : ℕ) × IsSound (at pieces.old) kept.old next }
@@ -447,18 +453,27 @@ fn end(kept: &mut BlockTable, pieces: &mut Pieces, index: usize)
     let from = block.start;
     let to = from + block.size;
     clear(pieces, block.mixed, from, to);
-    kept.end(index);
+    kept.end(index)
 }
 
 /// The least multiple of an alignment that is not below a number.
 fn round_up(number: u64, align: u32) -> u64
     requires align { IsAlignment align }
-    requires number { number ≤ 2 ^ 61 }
+    requires number { number ≤ of.last_begin }
     ensures value { result ≡ round_up number align }
     ensures above { number ≤ result }
     ensures below { result < number + align }
     ensures align { align ≤ 65536 }
 {
-    let align = u64::from(align);
-    (number + (align - 1)) / align * align
+    // Most alignments are one of few, and a division by a number that is known takes no time.
+    match align {
+        1 => number,
+        4 => (number + 3) / 4 * 4,
+        8 => (number + 7) / 8 * 8,
+        16 => (number + 15) / 16 * 16,
+        _ => {
+            let align = u64::from(align);
+            (number + (align - 1)) / align * align
+        }
+    }
 }

@@ -1,13 +1,15 @@
 //! Blocks whose numbers follow one another.
-ghost use Rattle.std.specs.Prelude.{◌≡◌, ◌≢◌, ℕ, ◌<◌, ◌≤◌, ◌++◌, ◌∷◌, [], length, slice_index_or, true, IfOk, OnOk, OnErr};
+ghost use Rattle.std.specs.Prelude.{◌≡◌, ◌≢◌, ℕ, ◌<◌, ◌≤◌, ◌++◌, ◌∷◌, [], length, slice_index_or, None, IfOk, OnOk, OnErr};
 ghost use Rattle.std.specs.Borrow.{sem};
 ghost use Rattle.ir_memory.specs.Numbered.{row};
 ghost use Rattle.ir_memory.specs.Rows.{LendsRow};
 ghost use Rattle.ir_memory.specs.Seen.{ended_block};
 
 use crate::kept::KeptBlock;
+use masked_bytes::MaskedBytes;
 use std::alloc::{AllocError, Global};
 use std::marker::Model;
+use std::mem;
 
 /// For how many numbers a page is.
 pub const ROWS: usize = 64;
@@ -17,6 +19,8 @@ pub const ROWS: usize = 64;
 #[derive(Drop)]
 pub struct Page {
     rows: Vec<KeptBlock>,
+    /// A row of which something was kept when one was looked for last.
+    found: usize,
 }
 
 impl Model for Page {
@@ -28,34 +32,34 @@ impl Model for Page {
     ghost view = { λ p. p.rows.items };
 }
 
-/// Whether a page is not full, or its first or its last block lives. Where blocks end in the order in which they began, or in the
-/// opposite order, that tells at once that a page is not spent.
+/// Whether a page is not full, or its last block lives, or the one that was found last. That tells nearly always that a page is not
+/// spent: where blocks end in the order in which they began, by the last, and else by the first that lived, which mostly lives longest.
 #[inline(always)]
-fn is_in_use(rows: &[KeptBlock]) -> bool {
+fn is_in_use(rows: &[KeptBlock], found: usize) -> bool {
     if rows.len() < ROWS {
         return true;
     }
-    if rows[0].live {
+    if found < rows.len() && rows[found].live {
         return true;
     }
     rows[ROWS - 1].live
 }
 
-/// Whether a page is full, and all its blocks have ended.
+/// The first row of which something is kept, or of a page that is not full any. None where a page is full, and all its blocks have ended.
 #[inline(never)]
-fn is_spent(rows: &[KeptBlock]) -> bool
-    ensures full { result ≡ true → 64 ≤ length rows.now }
-    ensures ended { result ≡ true → (k : ℕ) → row rows.now k ≡ ended_block }
+fn first_kept(rows: &[KeptBlock]) -> Option<usize>
+    ensures full { result ≡ None → 64 ≤ length rows.now }
+    ensures ended { result ≡ None → (k : ℕ) → row rows.now k ≡ ended_block }
 {
     if rows.len() < ROWS {
-        return false;
+        return Some(0);
     }
-    'blocks: for block in rows {
-        if !block.is_gone() {
-            return false;
+    'blocks: for place in 0..rows.len() {
+        if !rows[place].is_gone() {
+            return Some(place);
         }
     }
-    true
+    None
 }
 
 impl Page {
@@ -65,7 +69,7 @@ impl Page {
     {
         let mut rows = Vec::with_capacity(alloc, ROWS)?;
         rows.push(block)?;
-        Ok(Page { rows })
+        Ok(Page { rows, found: 0 })
     }
 
     /// How many rows there are.
@@ -104,22 +108,23 @@ impl Page {
         &mut self.rows[place]
     }
 
-    /// Ends the block of a row: nothing of it is kept.
-    pub fn end(&mut self, alloc: Global, place: usize)
+    /// Ends the block of a row: nothing of it is kept. What it had of bytes comes back.
+    pub fn end(&mut self, alloc: Global, place: usize) -> MaskedBytes
         ensures here { row self.new place ≡ ended_block }
         ensures others { (k : ℕ) → k ≢ place → row self.new k ≡ row self.old k }
         ensures long { length self.old < 64 → length self.new ≡ length self.old }
     {
         if place >= self.rows.len() {
-            return;
+            return MaskedBytes::none(alloc);
         }
-        self.rows[place] = KeptBlock::ended(alloc);
-        if is_in_use(&self.rows) {
-            return;
+        let block = mem::replace(&mut self.rows[place], KeptBlock::ended(alloc));
+        if !is_in_use(&self.rows, self.found) {
+            match first_kept(&self.rows) {
+                Some(found) => self.found = found,
+                None => self.rows = Vec::new(alloc),
+            }
         }
-        if !is_spent(&self.rows) {
-            return;
-        }
-        self.rows = Vec::new(alloc);
+        let KeptBlock { bytes, .. } = block;
+        bytes
     }
 }

@@ -7,6 +7,7 @@ ghost use Rattle.std.specs.Borrow.{sem};
 
 use crate::kept::KeptBlock;
 use crate::page::{Page, ROWS};
+use masked_bytes::MaskedBytes;
 use std::alloc::{AllocError, Global};
 use std::marker::Model;
 
@@ -126,12 +127,12 @@ impl BlockTable {
         page.at_mut(index % ROWS)
     }
 
-    /// Ends the block of a number: nothing of it is kept.
-    pub fn end(&mut self, index: usize)
+    /// Ends the block of a number: nothing of it is kept. What it had of bytes comes back.
+    pub fn end(&mut self, index: usize) -> MaskedBytes
         requires { index < length self.old }
         ensures { self.new ≡ slice_set self.old index ended_block }
     {
         let alloc = self.alloc;
-        self.pages[index / ROWS].end(alloc, index % ROWS);
+        self.pages[index / ROWS].end(alloc, index % ROWS)
     }
 }

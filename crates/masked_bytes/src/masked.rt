@@ -41,6 +41,21 @@ impl MaskedBytes {
         })
     }
 
+    /// So many zeros, in the memory of these bytes where it is enough.
+    #[inline]
+    pub fn renewed(self, alloc: Global, count: usize) -> Result<MaskedBytes, AllocError>
+        ensures { IfOk result (λ b. b ≡ replicate count (Some 0)) }
+    {
+        let MaskedBytes { mut bytes, .. } = self;
+        bytes.clear();
+        bytes.resize(count, 0)?;
+        Ok(MaskedBytes {
+            bytes,
+            marks: no_marks(alloc, count)?,
+            clean: true,
+        })
+    }
+
     /// No bytes, which takes no memory.
     pub fn none(alloc: Global) -> MaskedBytes
         ensures { result ≡ [] }

@@ -26,6 +26,9 @@ pub fn block_size(memory: &Memory, count: u128, size: u64) -> Option<u64>
     ensures most { IfSome result (λ bytes. bytes ≤ byte_limit) }
 {
     let left = room_left(memory);
+    if count == 1 {
+        return if size <= left { Some(size) } else { None };
+    }
     if size == 0 {
         return Some(0);
     }

@@ -17,7 +17,7 @@ invariant_of-self-2 c =
     let start = c.round_up-start.result in
     let small : start + c.args.size + 16 < 2 ^ 62 = omega arith in
     let new = seen-added p kept c.self.inside.next start c.args.size c.args.kind c.self.invariant.2 c.round_up-start.ensures.above small in
-    let there = c.in_default.ensures.pushed ∙ ap (λ b. kept ++ b ∷ []) c.in_ok-block.ensures in
+    let there = c.in_default.ensures.pushed ∙ ap (λ b. kept ++ b ∷ []) c.new-block.ensures in
     let starts = c.self.inside.starts.items in
     let block = new_block start c.args.size c.args.kind in
     let now = c.in_ok-note.ensures.noted ∙ ap (λ n. noted n start starts) (c.len-index.ensures ∙ sym (length-all p kept)) in
@@ -35,7 +35,10 @@ invariant_of-self-2 c =
     )
 
 pub invariant_of-self : goal.invariant_of-self
-invariant_of-self c =
+invariant_of-self c = c.self.invariant
+
+pub invariant_of-self-in_err-note : goal.invariant_of-self-in_err-note
+invariant_of-self-in_err-note c =
     let same = sym c.in_err-note.ensures.err in (
       c.self.invariant.0,
       subst (λ s. AreStarts s (all_seen (at c.self.inside.pieces) c.self.inside.kept)) same c.self.invariant.1,
@@ -61,5 +64,5 @@ returns-clause-added c =
     let start = c.round_up-start.result in
     let small : start + c.args.size + 16 < 2 ^ 62 = omega arith in
     let new = seen-added p kept c.self.inside.next start c.args.size c.args.kind c.self.invariant.2 c.round_up-start.ensures.above small in
-    let there = c.in_default.ensures.pushed ∙ ap (λ b. kept ++ b ∷ []) c.in_ok-block.ensures in
+    let there = c.in_default.ensures.pushed ∙ ap (λ b. kept ++ b ∷ []) c.new-block.ensures in
     rw (← c.self.view_is, there, new, ← c.round_up-start.ensures.value) refl

@@ -30,7 +30,7 @@ invariant_of-self c =
     let within : c.in-Some.index < length (all_seen p kept) = omega (arith, found.within, length-all p kept) in
     let lives = ap (λ x. x.live) c.get-block.ensures ∙ found.live _ in
     let live = live_bytes-ended (all_seen p kept) c.in-Some.index b within is (ap (λ x. x.live) (sym is) ∙ lives) in
-    rw c.end.ensures.value (
+    rw c.end-bytes.ensures.value (
       (
         subst (λ bs. IsPlaced 65536 bs c.self.inside.next) (sym (changed-ended (all_seen p kept) c.in-Some.index b within is)) (IsPlaced-ended c.in-Some.index (all_seen p kept) 65536 c.self.inside.next c.self.invariant.0.0),
         omega (arith, live),
@@ -39,7 +39,7 @@ invariant_of-self c =
         AreKnown-ended (all_seen p kept) c.in-Some.index c.self.invariant.0.4,
       ),
       AreStarts-ended _ (all_seen p kept) c.in-Some.index within c.self.invariant.1,
-      c.end.ensures.sound _ c.self.invariant.2,
+      c.end-bytes.ensures.sound _ c.self.invariant.2,
       c.self.invariant.3,
     )
 
@@ -52,4 +52,4 @@ returns-clause-answer c =
     let is = read p kept c.in-Some.index c.get-block.result.now found.within c.get-block.ensures in
     let within : c.in-Some.index < length (all_seen p kept) = omega (arith, found.within, length-all p kept) in
     let e = changed-ended (all_seen p kept) c.in-Some.index b within is in
-    rw (← c.self.view_is, ← found.value, c.end.ensures.value, e) refl
+    rw (← c.self.view_is, ← found.value, c.end-bytes.ensures.value, e) refl
