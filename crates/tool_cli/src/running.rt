@@ -114,7 +114,8 @@ pub(crate) fn run_bytes<I: Source, O: Sink>(
     ensures unread { is_dash name.now ≡ true → input.new ≡ input.old }
     ensures not_begun { IsBeforeRun name.now result → (input.new ≡ input.old) × (output.new ≡ output.old) }
 {
-    let checked = match accepted_part(alloc, name, bytes, GivenBack::AtOnce) {
+    // To give the items of a large text back takes longer than to open its program.
+    let checked = match accepted_part(alloc, name, bytes, GivenBack::AtTheEnd) {
         Ok(checked) => checked,
         Err(ended) => return ended,
     };
