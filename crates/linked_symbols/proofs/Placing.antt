@@ -17,7 +17,7 @@ use Rattle.linkage_rules.proofs.Filed.{map_joined}
 use Rattle.linkage_rules.proofs.KindsAmong.{variables_among}
 use Rattle.linkage_rules.proofs.Steps.{take_more}
 use Rattle.linked_symbols.specs.declared.room.Room as the_room
-use Rattle.linked_symbols.specs.declared.standing.Placed.{Placed}
+use Rattle.linked_symbols.specs.declared.standing.PlacedVariable.{PlacedVariable}
 use Rattle.linked_symbols.specs.Places.{clamped, room_told, variable_room, row, rows_among, ArePlaced}
 
 -- NUMBERS
@@ -86,15 +86,15 @@ next_more next [] row = refl
 next_more next (r ∷ rows) row = next_more (next_multiple_of next r.1.alignment + r.1.size + 16) rows row
 
 -- the variables of some rows, and where the next can lie
-pub record ArePut (rows : List (Symbol × Room)) (variables : List Placed) (next : ℕ) : Type 0 where
+pub record ArePut (rows : List (Symbol × Room)) (variables : List PlacedVariable) (next : ℕ) : Type 0 where
   pub placed : ArePlaced rows variables
   pub behind : next ≡ clamped (next_from 65536 rows)
 
-pub none_put : (variables : List Placed) → variables ≡ [] → ArePut [] variables 65536
+pub none_put : (variables : List PlacedVariable) → variables ≡ [] → ArePut [] variables 65536
 none_put variables none = record {
   placed = record {
-    rooms = ap (map {B = Symbol × the_room.Room} (λ (v : Placed). (v.symbol, v.room))) none;
-    addresses = ap (map {B = Symbol × ℕ} (λ (v : Placed). (v.symbol, v.address))) none;
+    rooms = ap (map {B = Symbol × the_room.Room} (λ (v : PlacedVariable). (v.symbol, v.room))) none;
+    addresses = ap (map {B = Symbol × ℕ} (λ (v : PlacedVariable). (v.symbol, v.address))) none;
   };
   behind = refl;
 }
@@ -102,17 +102,17 @@ none_put variables none = record {
 end_same : {A : Type 0} (xs ys : List A) (x y : A) → xs ≡ ys → x ≡ y → xs ++ x ∷ [] ≡ ys ++ y ∷ []
 end_same xs ys x y p q = ap₂ (λ l e. l ++ e ∷ []) p q
 
-module _ (rows : List (Symbol × Room)) (variables : List Placed) (next address after : ℕ) (s : Symbol) (r : Room) (put : ArePut rows variables next) where
-  abbrev one : Placed
+module _ (rows : List (Symbol × Room)) (variables : List PlacedVariable) (next address after : ℕ) (s : Symbol) (r : Room) (put : ArePut rows variables next) where
+  abbrev one : PlacedVariable
   one = record { symbol = s; room = room_told r; address = address }
 
-  abbrev room_row : Placed → Symbol × the_room.Room
+  abbrev room_row : PlacedVariable → Symbol × the_room.Room
   room_row v = (v.symbol, v.room)
 
   abbrev told_room : Symbol × Room → Symbol × the_room.Room
   told_room q = (q.0, room_told q.1)
 
-  abbrev address_row : Placed → Symbol × ℕ
+  abbrev address_row : PlacedVariable → Symbol × ℕ
   address_row v = (v.symbol, v.address)
 
   abbrev told_address : Symbol × ℕ → Symbol × ℕ
@@ -181,7 +181,7 @@ module _ (parts : List Module) where
     row_next = ap (rows_among parts) (take_more ss k s at) ∙ given_joined row_of (take k ss) (s ∷ [])
 
     -- a symbol of no room
-    pub none_more : (variables : List Placed) (next : ℕ) → None ≡ option_map room_told (variable_room parts s) → ArePut (rows_among parts (take k ss)) variables next → ArePut (rows_among parts (take (k + 1) ss)) variables next
+    pub none_more : (variables : List PlacedVariable) (next : ℕ) → None ≡ option_map room_told (variable_room parts s) → ArePut (rows_among parts (take k ss)) variables next → ArePut (rows_among parts (take (k + 1) ss)) variables next
     none_more variables next is put = by (variable_room parts s) refl is
       where
         by : (o : Option Room) → variable_room parts s ≡ o → None ≡ option_map room_told o → ArePut (rows_among parts (take (k + 1) ss)) variables next
@@ -189,7 +189,7 @@ module _ (parts : List Module) where
         by (Some r) h e = cc
 
     -- a symbol with its room
-    pub some_more : (variables after : List Placed) (next address behind : ℕ) (room : the_room.Room) → Some room ≡ option_map room_told (variable_room parts s) → ArePut (rows_among parts (take k ss)) variables next
+    pub some_more : (variables after : List PlacedVariable) (next address behind : ℕ) (room : the_room.Room) → Some room ≡ option_map room_told (variable_room parts s) → ArePut (rows_among parts (take k ss)) variables next
         → address ≡ clamped (next_multiple_of next room.alignment) → behind ≡ clamped (address + room.size + 16) → after ≡ variables ++ record { symbol = s; room = room; address = address } ∷ [] → ArePut (rows_among parts (take (k + 1) ss)) after behind
     some_more variables after next address behind room is put lies ends pushed = by (variable_room parts s) refl is
       where

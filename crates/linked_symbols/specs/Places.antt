@@ -8,7 +8,7 @@ use Rattle.linkage_rules.specs.declared.symbol.SymbolKind.TheVariants as kind
 use Rattle.linkage_rules.specs.Grouped.{kind_of, same_kind}
 use Rattle.linkage_rules.specs.Addresses.{Room, room, rooms, placed_from}
 use Rattle.linkage_rules.specs.Symbols.{function_symbols}
-use Rattle.linked_symbols.specs.declared.standing.Placed.{Placed}
+use Rattle.linked_symbols.specs.declared.standing.PlacedVariable.{PlacedVariable}
 use Rattle.linked_symbols.specs.declared.room.Room as the_room
 
 -- a number, or the greatest of 64 bits where it is more
@@ -38,14 +38,14 @@ rows_among parts ss = filter_map (λ s. row s (variable_room parts s)) ss
 
 -- what `Places` holds: the variables that lie in memory, and the functions, of which the n-th has the n-th address
 pub record PlacesTold : Type 0 where
-  pub variables : List Placed
+  pub variables : List PlacedVariable
   pub functions : List Symbol
 
 -- exactly those symbols with their rooms, where they lie from the first address on
-pub record ArePlaced (rows : List (Symbol × Room)) (variables : List Placed) : Type 0 where
-  pub rooms : map {B = Symbol × the_room.Room} (λ (v : Placed). (v.symbol, v.room)) variables
+pub record ArePlaced (rows : List (Symbol × Room)) (variables : List PlacedVariable) : Type 0 where
+  pub rooms : map {B = Symbol × the_room.Room} (λ (v : PlacedVariable). (v.symbol, v.room)) variables
       ≡ map {B = Symbol × the_room.Room} (λ (r : Symbol × Room). (r.0, room_told r.1)) rows
-  pub addresses : map {B = Symbol × ℕ} (λ (v : Placed). (v.symbol, v.address)) variables
+  pub addresses : map {B = Symbol × ℕ} (λ (v : PlacedVariable). (v.symbol, v.address)) variables
       ≡ map {B = Symbol × ℕ} (λ (r : Symbol × ℕ). (r.0, clamped r.1)) (placed_from FIRST_ADDRESS rows)
 
 -- exactly where the variables and functions of the parts stand, in the order of symbols

@@ -26,4 +26,4 @@ pub use bound::Bound;
 pub use meaning::symbol_behind;
 pub use names::{Meanings, bind_names};
 pub use room::{Room, greatest_common, greatest_stated, is_common, joined_length, room_of};
-pub use standing::{Placed, PlacedList, Places, place_symbols};
+pub use standing::{PlacedVariable, PlacedVariableList, Places, place_symbols};

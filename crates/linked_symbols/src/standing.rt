@@ -18,7 +18,7 @@ use std::marker::Model;
 
 /// A variable that lies in memory.
 #[derive(Drop)]
-pub struct Placed {
+pub struct PlacedVariable {
     /// What it is.
     pub symbol: Symbol,
     /// What it needs.
@@ -28,12 +28,12 @@ pub struct Placed {
 }
 
 /// The variables that lie in memory, in the order of symbols.
-pub type PlacedList = ItemList<Placed>;
+pub type PlacedVariableList = ItemList<PlacedVariable>;
 
 /// The variables that lie in memory, and the functions, each in the order of symbols.
 #[derive(Drop)]
 pub struct Places {
-    variables: PlacedList,
+    variables: PlacedVariableList,
     functions: SymbolList,
 }
 
@@ -47,7 +47,7 @@ impl Model for Places {
 
 impl Places {
     /// The variables that are defined, with their rooms and addresses, in the order of symbols.
-    pub fn variables(&self) -> &PlacedList
+    pub fn variables(&self) -> &PlacedVariableList
         ensures { result.now ≡ self.now.variables }
     {
         &self.variables
@@ -99,7 +99,7 @@ fn placed_variables(
     parts: &[Checked],
     bindings: &Bindings,
     symbols: &[Symbol],
-) -> Result<PlacedList, AllocError>
+) -> Result<PlacedVariableList, AllocError>
     requires { AreBindings parts.now bindings.now }
     ensures { IfOk result (ArePlaced (rows_among (modules parts.now) symbols.now)) }
 {
@@ -110,7 +110,7 @@ fn placed_variables(
             let address = rounded(next, room.alignment);
             next = next_behind(address, room.size);
             let symbol = symbol.copy(alloc)?;
-            variables.push(Placed {
+            variables.push(PlacedVariable {
                 symbol,
                 room,
                 address,

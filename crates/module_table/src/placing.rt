@@ -7,12 +7,12 @@ ghost use Rattle.linkage_rules.specs.Symbols.{symbols};
 use crate::symbols::add_symbol;
 use crate::telling::{add, add_number};
 use linkage_rules::{Bindings, Symbol, SymbolKind};
-use linked_symbols::{Placed, Places, place_symbols, symbol_behind};
+use linked_symbols::{PlacedVariable, Places, place_symbols, symbol_behind};
 use module_arena::Checked;
 use std::alloc::{AllocError, Global};
 
 /// The variable of a symbol, where it lies in memory.
-fn placed<'a>(places: &'a Places, symbol: &Symbol) -> Option<&'a Placed> {
+fn placed<'a>(places: &'a Places, symbol: &Symbol) -> Option<&'a PlacedVariable> {
     for placed in places.variables().as_slice() {
         if placed.symbol == *symbol {
             return Some(placed);

@@ -4,13 +4,13 @@ use Rattle.std.proofs.lemmas.Option.{slice_get-get_or}
 use Rattle.linkage_rules.specs.declared.symbol.Symbol.{Symbol}
 use Rattle.linkage_rules.specs.Ids.{modules}
 use Rattle.linkage_rules.specs.Addresses.{Room}
-use Rattle.linked_symbols.specs.declared.standing.Placed.{Placed}
+use Rattle.linked_symbols.specs.declared.standing.PlacedVariable.{PlacedVariable}
 use Rattle.linked_symbols.specs.Places.{rows_among}
 use Rattle.linked_symbols.proofs.Placing.{ArePut, none_more, some_more}
 use Rattle.linked_symbols.proofs.standing.placed_variables.Goals as goal
 use Rattle.linked_symbols.proofs.standing.placed_variables.Goals.{in-Some+in_ok-symbol+in_ok-push, in_default}
 
-unmoved : (rows : List (Symbol × Room)) (vs ws : List Placed) (n m : ℕ) → ws ≡ vs → m ≡ n → ArePut rows vs n → ArePut rows ws m
+unmoved : (rows : List (Symbol × Room)) (vs ws : List PlacedVariable) (n m : ℕ) → ws ≡ vs → m ≡ n → ArePut rows vs n → ArePut rows ws m
 unmoved rows vs ws n m p q put = subst (λ l. ArePut rows l m) (sym p) (subst (ArePut rows vs) (sym q) put)
 
 pub loop-symbol-preserved : goal.loop-symbol-preserved
