@@ -34,11 +34,18 @@ global_dropped =
 
 -- dropped there too, and behind a function
 abbrev pub unnamed_addresses : List (List ℕ)
-unnamed_addresses = codes "unnamed_addr" ∷ codes "local_unnamed_addr" ∷ []
+unnamed_addresses =
+    codes "unnamed_addr" ∷
+    codes "local_unnamed_addr" ∷
+    []
 
 -- dropped before the type of a function or of a call
 abbrev pub calling_conventions : List (List ℕ)
-calling_conventions = codes "ccc" ∷ codes "fastcc" ∷ codes "coldcc" ∷ []
+calling_conventions =
+    codes "ccc" ∷
+    codes "fastcc" ∷
+    codes "coldcc" ∷
+    []
 
 -- dropped at a parameter alone
 abbrev pub parameter_dropped : List (List ℕ)
@@ -62,7 +69,12 @@ parameter_dropped =
 
 -- dropped at a parameter and behind a function
 abbrev pub attribute_dropped : List (List ℕ)
-attribute_dropped = codes "nofree" ∷ codes "readnone" ∷ codes "readonly" ∷ codes "writeonly" ∷ []
+attribute_dropped =
+    codes "nofree" ∷
+    codes "readnone" ∷
+    codes "readonly" ∷
+    codes "writeonly" ∷
+    []
 
 -- dropped behind a function alone
 abbrev pub function_dropped : List (List ℕ)
@@ -107,11 +119,20 @@ parameter_dropped_lists =
 
 -- dropped behind a function, with the brackets behind them
 abbrev pub function_dropped_lists : List (List ℕ)
-function_dropped_lists = codes "memory" ∷ codes "alignstack" ∷ codes "allockind" ∷ codes "allocsize" ∷ []
+function_dropped_lists =
+    codes "memory" ∷
+    codes "alignstack" ∷
+    codes "allockind" ∷
+    codes "allocsize" ∷
+    []
 
 -- before `call`
 abbrev pub tail_marks : List (List ℕ)
-tail_marks = codes "tail" ∷ codes "musttail" ∷ codes "notail" ∷ []
+tail_marks =
+    codes "tail" ∷
+    codes "musttail" ∷
+    codes "notail" ∷
+    []
 
 -- the words that have a role of their own
 abbrev pub single_words : List Meaning

@@ -21,12 +21,7 @@ pub(crate) fn decimal_128(digits: &[u8]) -> Option<u128>
 fn decimal_of_many(digits: &[u8]) -> Option<u64>
     ensures { result ≡ below (2 ^ 64) (decimal digits.now) }
 {
-    let mut number: u64 = 0;
-    for digit in digits {
-        let value = u64::from(digit.saturating_sub(b'0'));
-        number = number.checked_mul(10)?.checked_add(value)?;
-    }
-    Some(number)
+    u64::try_from(decimal_128(digits)?).ok()
 }
 
 /// What a digit stands for.
