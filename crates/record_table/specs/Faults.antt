@@ -4,13 +4,16 @@ use Rattle.std.specs.List.{list_any}
 use Rattle.bit_tree.specs.Stream.{StreamTree, nothing, block, definition, values}
 use Rattle.record_table.specs.Walk.{least}
 
--- Another producer; another version; a code that its block does not have (0 where there is no such block); or a record,
--- by its block, its index in the stream and the least rule that it breaks. Where a block or a record is missing it is
--- told by the id of the block that is due, and by how many records stand before.
+-- what refuses it
 pub data RecordFault : Type 0 where
+  -- another program wrote it
   ForeignProducer : RecordFault
+  -- its records are of another version, this one
   BadVersion : (version : ℕ) → RecordFault
+  -- a code that this block does not have, 0 where there is no such block
   UnknownRecord : (block_id code : ℕ) → RecordFault
+  -- a record, by its block, its index in the stream and the least rule that it breaks; where a block or a record is missing, by the id of the
+  -- block that is due, and by how many records stand before
   BadRecord : (block_id index rule : ℕ) → RecordFault
 
 -- what is read, or what refuses it

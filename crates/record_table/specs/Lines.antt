@@ -105,6 +105,7 @@ CallParts = Tree × (Option LocalName × (Bool × (List Tree × (Value × List O
 -- those of an instruction
 abbrev pub call_parts : Instruction → CallParts
 call_parts i = of_call i.result i.operation where
+  -- those of an operation with this result; what is no call has none
   of_call : Option LocalName → Operation → CallParts
   of_call result (Call s callee arguments) = (s.returns, (result, (s.variadic, (s.parameters, (callee, arguments)))))
   of_call result _ = (void, (None, (false, ([], (no_value, [])))))

@@ -86,6 +86,7 @@ tree_list (more_trees t ts) = t ∷ tree_list ts
 -- those of the fields of a struct, whose own name is none of them
 abbrev pub in_struct : List ℕ × TreeBody → List Tree
 in_struct s = in_body s.1 where
+  -- those of a body
   in_body : TreeBody → List Tree
   in_body opaque_body = []
   in_body (fields packed ts) = tree_list ts
