@@ -1,4 +1,4 @@
--- For `read`: a stream whose module's block was entered.
+-- Says how the code of `read` reads: a stream whose module's block was entered.
 use Rattle.std.specs.Prelude.{◌≡◌, ℕ, List, [], ◌∷◌, Result, Ok, Err}
 use Rattle.bit_tree.specs.Pieces.{Piece, ended}
 use Rattle.bit_tree.specs.Stream.{StreamTree, Stream}

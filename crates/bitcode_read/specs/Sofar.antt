@@ -1,4 +1,4 @@
--- For `read`: the block of a module in the making.
+-- Says how the code of `read` reads: the block of a module in the making.
 use Rattle.std.specs.Prelude.{◌≡◌, ◌⊎◌, ◌≤◌, ◌<◌, ℕ, suc, Bool, true, false, List, [], ◌∷◌, ◌++◌, map, length, drop, slice_get, slice_index_or, nat_eq, All, Option, Some, None, Result, Ok, Err, ⊤}
 use Rattle.bit_tree.specs.Pieces.{Piece, ended}
 use Rattle.bit_tree.specs.Stream.{StreamTree, Stream}
@@ -241,8 +241,10 @@ pub record IsOut (new : ModuleReader) (others : List Piece) (t : records.Sofar) 
 -- a block of that id that was begun was read, in the module's block of these records
 abbrev pub ReadsBlock : Texts → Records → ModuleReader → Sofar → ModuleAhead → ℕ → Result (Unit {0}) BitcodeFault → ModuleReader → Sofar → ModuleAhead → Type 0
 ReadsBlock texts all old before known id result new after later =
-    (s : records.Sofar) (inside behind : Records) (others : List Piece) → IsSofar texts all known old before s (a_block id inside behind)
-    → IsBefore old.reader.left inside (ended ∷ others) → old.reader.at ≡ s.at
+    (s : records.Sofar) (inside behind : Records) (others : List Piece)
+    → IsSofar texts all known old before s (a_block id inside behind)
+    → IsBefore old.reader.left inside (ended ∷ others)
+    → old.reader.at ≡ s.at
     → Answers (λ done t. IsSofar texts all later new after t behind × IsOut new others t) (records.block_in s id inside) result
 
 -- ---- the whole block

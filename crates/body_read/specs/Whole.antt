@@ -36,12 +36,20 @@ NumbersOutside m k =
 -- the results of lines are called as was counted ahead
 abbrev pub AreCounted : the_texts.Texts → Numbering → bodies.Begun → ℕ → List ℕ → Type 0
 AreCounted x k s code operands =
-    (o : Opcode) → nat_eq code 2 ≡ false → opcode_of_code (code - 10) ≡ Some o → is_end o ≡ false → IsCounted k s (judged (instruction (texts_of x) k s.own o) operands)
+    (o : Opcode)
+    → nat_eq code 2 ≡ false
+    → opcode_of_code (code - 10) ≡ Some o
+    → is_end o ≡ false
+    → IsCounted k s (judged (instruction (texts_of x) k s.own o) operands)
 
 -- a line in front, none of whose operands are taken, was read behind what was read so far
 abbrev pub ReadsOpcode : the_texts.Texts → Numbering → ℕ → Opcode → ModuleReader → Begun → Result (Unit {0}) BitcodeFault → ModuleReader → Begun → Type 0
 ReadsOpcode x k count o old before result new after =
-    Numbers old k → (s : bodies.Begun) (code : ℕ) (operands : List ℕ) → old.reader.walk ≡ going operands None → old.reader.at ≡ suc s.at → Follows count before s
+    Numbers old k
+    → (s : bodies.Begun) (code : ℕ) (operands : List ℕ)
+    → old.reader.walk ≡ going operands None
+    → old.reader.at ≡ suc s.at
+    → Follows count before s
     → (is_end o ≡ false → IsCounted k s (judged (instruction (texts_of x) k s.own o) operands))
     → Answers (λ done t. IsBody k count old new before after s t) (bodies.with_opcode (texts_of x) k count s code operands (Some o)) result
 

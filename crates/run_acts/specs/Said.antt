@@ -53,8 +53,17 @@ IsReturned value due next old new m n = returned value (newest old.frames) (core
 -- the call of an address comes to what the definition says of it, whatever is due, by the body of the newest function
 abbrev pub CallsAt : Loaded → UnderWay → UnderWay → Blocks → Blocks → (callee : Scalar) → CallParts → (arguments : List Scalar) → (to : ℕ) → Next → (written : List ℕ) → Type 0
 CallsAt p old new m n callee parts arguments to next written =
-    (body : Decoded) (due : List Due) → IsReady p (newest old.frames).function body
-    → called_at (table (alone (module_of p.lists))) callee (signature_of body.pools p.lists parts) (shapes_of body.pools p.lists parts) arguments to (core_of old.frames due m) ≡ next_of next (core_of new.frames due n) written
+    (body : Decoded) (due : List Due)
+    → IsReady p (newest old.frames).function body
+    → called_at
+        (table (alone (module_of p.lists)))
+        callee
+        (signature_of body.pools p.lists parts)
+        (shapes_of body.pools p.lists parts)
+        arguments
+        to
+        (core_of old.frames due m)
+      ≡ next_of next (core_of new.frames due n) written
 
 -- the frame has these allocas
 abbrev pub with_allocas : List Pointer → Frame → Frame

@@ -15,6 +15,10 @@ use Rattle.typed_edges.specs.Asked.{IsAskedEnd}
 -- the action of the end of each block whose ways lead to instructions
 abbrev pub EndsAreTyped : Type 0
 EndsAreTyped =
-    (t : Typing) (look : ℕ → ℕ → ℕ → Action) (function : ℕ) (sc : FunctionScope) (f : Function) → t.gives function ≡ kinds_of (shape_of sc.names f.returns)
-    → AllByRecursion (λ b. AllByRecursion (IsAsked t look function sc) b.instructions) sc.blocks → (from : LocalName) (e : Ending) → IsAskedEnd t look function sc f e
-    → (block position : ℕ) → GoesOnFrom (look function) block position (ending_in sc from e) → IsTypedAction t look function block position (ending_in sc from e)
+    (t : Typing) (look : ℕ → ℕ → ℕ → Action) (function : ℕ) (sc : FunctionScope) (f : Function)
+    → t.gives function ≡ kinds_of (shape_of sc.names f.returns)
+    → AllByRecursion (λ b. AllByRecursion (IsAsked t look function sc) b.instructions) sc.blocks
+    → (from : LocalName) (e : Ending)
+    → IsAskedEnd t look function sc f e
+    → (block position : ℕ)
+    → GoesOnFrom (look function) block position (ending_in sc from e) → IsTypedAction t look function block position (ending_in sc from e)
