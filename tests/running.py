@@ -564,6 +564,7 @@ def printing():
     undefined(prints("%d", ("i64", 1)), "bad format")
     undefined(prints("%ld", ("i32", 1)), "bad format")
     undefined(prints("%s", ("i64", 1)), "bad format")
+    undefined(prints("%d"), "bad format")
     undefined(prints("%d %d", ("i32", 1)), "bad format")
     undefined(prints("%f", ("i64", 1)), "bad format")
     undefined(prints("abc%"), "bad format")
