@@ -1,4 +1,4 @@
--- For `halves` and `of_halves` of `StreamCounts`, and how the code of `Tally` reads: counts of 32 bits in two halves, of
+-- Says how the code of `StreamCounts` and `Tally` reads: counts of 32 bits in two halves, of
 -- which the upper ones are mostly none.
 use Rattle.std.specs.Prelude.{ℕ, ◌+◌, ◌*◌, List, map, unwrap_or}
 use Rattle.std.specs.Ordering.{nat_cmp}

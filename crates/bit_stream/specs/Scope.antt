@@ -39,6 +39,7 @@ give table id t = insert_entry nat_cmp (remove_entry (is_at (nat_cmp id)) table)
 -- what BLOCKINFO gave to this block before it was entered
 abbrev pub given_here : Scope → List AdmittedAbbreviation
 given_here s = given_by s.given s.block.id where
+  -- what a table gave to blocks of this id, and nothing where no block is open
   given_by : List (ℕ × List AdmittedAbbreviation) → Option ℕ → List AdmittedAbbreviation
   given_by table None = []
   given_by table (Some id) = given_to table id

@@ -1,4 +1,4 @@
--- For `write`: the entries of a module by the ids of an arena, and what must hold of bodies to be spelled as they are.
+-- Says how the code of `write` reads: the entries of a module by the ids of an arena, and what must hold of bodies to be spelled as they are.
 use Rattle.std.specs.Prelude.{◌≡◌, true, ℕ, ◌<◌, List, [], ◌++◌, length, map, All, Option, option_to_list, slice_index_or, bytes_eq, is_some}
 use Rattle.std.specs.List.{list_any}
 use Rattle.type_table.specs.declared.ir_type.IrType.{IrType}

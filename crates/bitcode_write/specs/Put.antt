@@ -1,4 +1,4 @@
--- For `write`: what is written from call to call.
+-- Says how the code of `write` reads: what is written from call to call.
 use Rattle.std.specs.Prelude.{◌≡◌, ℕ, ◌<◌, false, List, [], length}
 use Rattle.bit_stream.specs.Writer.{Writer}
 use Rattle.bit_tree.specs.Written.{Written, no_more, written}

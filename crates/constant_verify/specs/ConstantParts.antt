@@ -1,4 +1,4 @@
--- Says how the code reads: what is known of a constant from what is known of the constants in it, so that each constant of a
+-- For `written_number`, and how the code reads: what is known of a constant from what is known of the constants in it, so that each constant of a
 -- module is looked at once.
 use Rattle.std.specs.Prelude.{◌≡◌, ℕ, ◌<◌, Bool, true, false, not, ◌&&◌, ◌==◌, nat_lt, List, [], ◌∷◌, map, length, All, Option, Some, None}
 use Rattle.std.specs.List.{fold, list_all}

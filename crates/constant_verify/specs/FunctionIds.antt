@@ -1,4 +1,4 @@
--- For `is_only_called`: which entries are functions.
+-- Says how the code of `is_only_called` reads: which entries are functions.
 use Rattle.std.specs.Prelude.{Bool, true, false}
 use Rattle.module_arena.specs.declared.entry.GlobalId.{GlobalId}
 use Rattle.module_arena.specs.declared.entry.GlobalId.TheVariants as global

@@ -1,4 +1,4 @@
--- For `declare_variables`: the elements of an array type.
+-- Says how the code of `declare_variables` reads: the elements of an array type.
 use Rattle.std.specs.Prelude.{ℕ, Option, Some, None}
 use Rattle.type_table.specs.declared.ir_type.IrType.{IrType}
 use Rattle.type_table.specs.declared.ir_type.IrType.TheVariants.{Int, Ptr, Void, Array, Struct, Named}

@@ -1,4 +1,4 @@
--- For `no_such_symbol`, `choose`: what is told of an entry by its id.
+-- Says how the code of `no_such_symbol` and `choose` reads: what is told of an entry by its id.
 use Rattle.std.specs.Prelude.{Bool, true, false, is_some, slice_get, []}
 use Rattle.std.specs.Option.{option_map_or}
 use Rattle.module_arena.specs.declared.entry.GlobalId.{GlobalId}

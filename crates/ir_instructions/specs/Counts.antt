@@ -1,4 +1,4 @@
--- For the proof of `read_items`: how much blocks hold.
+-- Says how the code of `read_items` reads: how much blocks hold.
 use Rattle.std.specs.Prelude.{ℕ, ◌+◌, length}
 use Rattle.ir_instructions.specs.Tree.{BlockTree}
 

@@ -1,4 +1,4 @@
--- For `build_structs`: where the structs of a text stand among its items.
+-- Says how the code of `build_structs` reads: where the structs of a text stand among its items.
 use Rattle.std.specs.Prelude.{◌≡◌, ℕ, ◌<◌, List, length, take, Some, slice_get}
 use Rattle.ir_syntax.specs.declared.item.Item.{Item}
 use Rattle.ir_syntax.specs.View.{items_view}

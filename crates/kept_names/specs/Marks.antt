@@ -1,4 +1,4 @@
--- For `named_by_kept`: the names in constants that are marked.
+-- Says how the code of `named_by_kept` reads: the names in constants that are marked.
 use Rattle.std.specs.Prelude.{◌≡◌, ℕ, ◌≤◌, Bool, false, ◌||◌, List, [], ◌∷◌, ◌++◌, flat_map, length, if◌then◌else◌}
 use Rattle.std.specs.Option.{option_map_or}
 use Rattle.module_arena.specs.declared.constant.Const.{Const}

@@ -1,4 +1,4 @@
--- For `local_types`: the types that instructions give, in the order of the values.
+-- Says how the code of `local_types` reads: the types that instructions give, in the order of the values.
 use Rattle.std.specs.Prelude.{◌≡◌, ◌<◌, List, [], ◌++◌, All, flat_map, length, map, Option}
 use Rattle.type_table.specs.Tree.{Tree}
 use Rattle.type_table.specs.Types.{Types, structs, trees}

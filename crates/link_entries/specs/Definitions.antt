@@ -1,4 +1,4 @@
--- For `declare_symbols`, and how the code reads: what is declared of a symbol, by the ids of its entries.
+-- Says how the code of `declare_symbols` reads: what is declared of a symbol, by the ids of its entries.
 use Rattle.std.specs.Prelude.{List, map, if◌then◌else◌}
 use Rattle.std.specs.List.{list_all}
 use Rattle.ir_tables.specs.declared.linkage.Linkage.{Linkage}

@@ -1,4 +1,4 @@
--- For `declare_symbols`, and how the code reads: how many entries are declared, and that there is room for one more.
+-- Says how the code of `declare_symbols` reads: how many entries are declared, and that there is room for one more.
 use Rattle.std.specs.Prelude.{◌≡◌, ℕ, true, List, map, take}
 use Rattle.type_table.specs.Tree.{Structs}
 use Rattle.type_table.specs.Types.{structs}

@@ -1,4 +1,4 @@
--- For `declare_symbols`, and how the code reads: an entry is declared.
+-- Says how the code of `declare_symbols` reads: an entry is declared.
 use Rattle.std.specs.Prelude.{◌≡◌, List}
 use Rattle.module_arena.specs.Known.{counts}
 use Rattle.module_arena.specs.Lists.{Lists}

@@ -1,4 +1,4 @@
--- For `define_symbols`, and how the code reads: the elements of several arrays as those of one.
+-- Says how the code of `define_symbols` reads: the elements of several arrays as those of one.
 use Rattle.std.specs.Prelude.{List, [], map, flat_map}
 use Rattle.type_table.specs.Tree.{Tree}
 use Rattle.module_arena.specs.Module.{Module, Constant}

@@ -1,4 +1,4 @@
--- For `define_symbols`, and how the code reads: the linked module whose first entries are defined, and all others declared.
+-- Says how the code of `define_symbols` reads: the linked module whose first entries are defined, and all others declared.
 use Rattle.std.specs.Prelude.{◌≡◌, ℕ, List, length, filter_map, take, slice_get, Some}
 use Rattle.linkage_rules.specs.Globals.{Global}
 use Rattle.linkage_rules.specs.Ids.{modules, global_at}

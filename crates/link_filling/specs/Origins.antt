@@ -1,4 +1,4 @@
--- For `define_symbols`, and how the code reads: what is kept of the symbols while they are defined.
+-- Says how the code of `define_symbols` reads: what is kept of the symbols while they are defined.
 use Rattle.std.specs.Prelude.{◌≡◌, ℕ, List, [], slice_get, Option, Some, None}
 use Rattle.linkage_rules.specs.Grouped.{group_in, home_in}
 use Rattle.linkage_rules.specs.Resolved.{Resolved}

@@ -1,4 +1,4 @@
--- For `define_symbols`, and how the code reads: which parts still stand while functions and aliases are defined.
+-- Says how the code of `define_symbols` reads: which parts still stand while functions and aliases are defined.
 use Rattle.std.specs.Prelude.{◌≡◌, ℕ, ◌<◌, ◌≤◌, Bool, true, false, List, length, map, slice_get, Option, Some}
 use Rattle.linkage_rules.specs.Ids.{modules}
 use Rattle.linkage_rules.specs.declared.entry.EntryId.{EntryId}

@@ -1,4 +1,4 @@
--- For `copy_ground`: parts that are copied one after another.
+-- Says how the code of `copy_ground` reads: parts that are copied one after another.
 use Rattle.std.specs.Prelude.{◌≡◌, ℕ, List, slice_get, All, Some}
 use Rattle.linkage_rules.specs.Ids.{modules}
 use Rattle.module_arena.specs.Lists.{Lists}

@@ -1,4 +1,4 @@
--- For `copy_constants`, and how the code reads: the constants of the first so many parts are copied.
+-- Says how the code of `copy_constants` reads: the constants of the first so many parts are copied.
 use Rattle.std.specs.Prelude.{◌≡◌, ℕ, ◌<◌, ◌≤◌, List, [], slice_get, Some}
 use Rattle.linkage_rules.specs.Ids.{modules}
 use Rattle.module_arena.specs.Lists.{Lists}

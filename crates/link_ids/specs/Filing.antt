@@ -1,4 +1,4 @@
--- For `set_new_ids`, and how the code reads: new ids that are filed, part by part, under the ids of entries.
+-- Says how the code of `set_new_ids` reads: new ids that are filed, part by part, under the ids of entries.
 use Rattle.std.specs.Prelude.{◌≡◌, ℕ, Bool, ◌&&◌, nat_eq, if◌then◌else◌, List, length, map, slice_get, slice_index_or, slice_set, Option, Some, None}
 use Rattle.std.specs.List.{list_any}
 use Rattle.linkage_rules.specs.Grouped.{key_in}

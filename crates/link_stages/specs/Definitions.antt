@@ -1,4 +1,4 @@
--- For `declare_symbols` and `define_symbols`: what is written of a symbol that some part defines, by the ids of its entries.
+-- Says how the code of `declare_symbols` and `define_symbols` reads: what is written of a symbol that some part defines, by the ids of its entries.
 use Rattle.std.specs.Prelude.{List, map, filter}
 use Rattle.linkage_rules.specs.Entries.{Entry}
 use Rattle.linkage_rules.specs.Globals.{Global}

@@ -1,4 +1,4 @@
--- For `define_symbols`: the linked module while its declared entries get their definitions.
+-- Says how the code of `define_symbols` reads: the linked module while its declared entries get their definitions.
 use Rattle.std.specs.Prelude.{ℕ, List, ◌++◌, map, take, drop, Option, Some, None}
 use Rattle.linkage_rules.specs.Globals.{Global, OfVariable, OfFunction, OfAlias}
 use Rattle.module_arena.specs.Changes.{initialised, targeted, defined}

@@ -1,4 +1,4 @@
--- For `head_of`: what is told of an entry of an arena without its names and types.
+-- Says how the code of `head_of` reads: what is told of an entry of an arena without its names and types.
 use Rattle.std.specs.Prelude.{Bool, true, false, is_some}
 use Rattle.module_arena.specs.declared.entry.Alias.{Alias}
 use Rattle.module_arena.specs.declared.entry.AliasType.{AliasType}

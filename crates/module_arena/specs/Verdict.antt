@@ -1,4 +1,5 @@
--- For `verify` and `verify_counted`: first whether a function is too large, then its first failure.
+-- Says how the code reads: what is told of a module, first that a function is too large, else its first failure. What
+-- `verify` promises is said by path_verify.
 use Rattle.std.specs.Prelude.{ℕ, Option, Some, None}
 use Rattle.module_arena.specs.Module.{Bytes, Function, Module}
 use Rattle.module_arena.specs.Functions.{product, first_too_large}

@@ -1,4 +1,4 @@
--- For `extract`: that what kept definitions name is there, once all entries are declared.
+-- Says how the code of `extract` reads: that what kept definitions name is there, once all entries are declared.
 use Rattle.std.specs.Prelude.{◌≡◌, ℕ, slice_get, Some, IsSome}
 use Rattle.module_arena.specs.declared.entry.Alias as the_alias
 use Rattle.module_arena.specs.declared.entry.GlobalId.{GlobalId}

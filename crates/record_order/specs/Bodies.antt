@@ -1,4 +1,4 @@
--- For `text_table`: what the locals of a function are called, by the ids of an arena.
+-- Says how the code of `text_table` reads: what the locals of a function are called, by the ids of an arena.
 use Rattle.std.specs.Prelude.{ℕ, ◌<◌, List, [], ◌++◌, length, flat_map, All, option_to_list, slice_index_or}
 use Rattle.std.specs.Option.{option_map_or}
 use Rattle.module_arena.specs.declared.entry.Block.{Block}

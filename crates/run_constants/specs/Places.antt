@@ -1,4 +1,4 @@
--- For `leaf_of`: where the indices of a `getelementptr` have led to so far, and how far one leads.
+-- Says how the code of `leaf_of` reads: where the indices of a `getelementptr` have led to so far, and how far one leads.
 use Rattle.std.specs.Prelude.{◌≡◌, ℕ, ◌<◌, true, ⊤, length, ℤ, Option, unwrap_or}
 use Rattle.ir_eval.specs.declared.value.Scalar.{Scalar}
 use Rattle.module_arena.specs.declared.constant.TypedConst.{TypedConst}

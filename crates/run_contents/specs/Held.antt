@@ -1,4 +1,4 @@
--- For `put_contents`: what a variable of a module holds at first, in a run of the module alone.
+-- Says how the code of `put_contents` reads: what a variable of a module holds at first, in a run of the module alone.
 use Rattle.std.specs.Prelude.{ℕ, Bool, true, false, not, ◌&&◌, [], if◌then◌else◌}
 use Rattle.std.specs.Option.{option_map_or}
 use Rattle.linkage_rules.specs.Linkages.{is_appending}

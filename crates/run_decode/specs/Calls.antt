@@ -1,4 +1,4 @@
--- For `decode`: a call by its ids.
+-- Says how the code of `decode` reads: a call by its ids.
 use Rattle.std.specs.Prelude.{◌≡◌, ℕ, map, flat_map}
 use Rattle.module_arena.specs.declared.instruction.Call.{Call}
 use Rattle.run_rules.specs.Scope.{operand_in}

@@ -1,4 +1,4 @@
--- For `decode`: what an instruction by its ids is to come to.
+-- Says how the code of `decode` reads: what an instruction by its ids is to come to.
 use Rattle.std.specs.Prelude.{Bool, true, false, Option}
 use Rattle.std.specs.Option.{option_map, option_map_or}
 use Rattle.ir_eval.specs.declared.value.Scalar.TheVariants as scalar

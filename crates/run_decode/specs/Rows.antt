@@ -1,4 +1,4 @@
--- For `decode`: the actions of blocks, and where they stand.
+-- Says how the code of `decode` reads: the actions of blocks, and where they stand.
 use Rattle.std.specs.Prelude.{◌≡◌, ◌∷◌, [], ◌++◌, All, List, map}
 use Rattle.std.specs.List.{AllZip}
 use Rattle.module_arena.specs.declared.entry.Block.{Block}

@@ -1,4 +1,4 @@
--- For `open` of `Machine`: a run that was opened.
+-- Says how the code of `open` of `Machine` reads: a run that was opened.
 use Rattle.std.specs.Prelude.{◌≡◌, ◌≤◌}
 use Rattle.module_arena.specs.View.{module_of}
 use Rattle.run_names.specs.Told.{alone}

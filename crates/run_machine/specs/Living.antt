@@ -1,4 +1,4 @@
--- For `step` and `run` of `Machine`: what holds of a run that is not over, and how a clause sees it.
+-- Says how the code of `step` and `run` of `Machine` reads: what holds of a run that is not over, and how a clause sees it.
 use Rattle.std.specs.Prelude.{◌≡◌, ℕ, ◌+◌, ◌*◌, ◌<◌, ◌≤◌, ⊤, Bool, List, [], ◌∷◌, length, Option, Some, None, if◌then◌else◌}
 use Rattle.module_arena.specs.View.{module_of}
 use Rattle.ir_memory.specs.declared.leaf.Leaf.TheVariants as leaf

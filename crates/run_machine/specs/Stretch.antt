@@ -1,4 +1,4 @@
--- For `run` of `Machine`: a stretch of instructions that neither call nor return.
+-- Says how the code of `run` of `Machine` reads: a stretch of instructions that neither call nor return.
 use Rattle.std.specs.Prelude.{◌≡◌, ℕ, zero, suc, ◌+◌, ◌<◌, ◌≤◌, ⊤, true, List, []}
 use Rattle.ir_memory.specs.Memory.{Blocks}
 use Rattle.run_rules.specs.Action.{Action}

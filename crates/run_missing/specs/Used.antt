@@ -1,4 +1,4 @@
--- For `missing_name`: the names that the definitions of a module use, and those that mean nothing.
+-- Says how the code of `missing_name` reads: the names that the definitions of a module use, and those that mean nothing.
 use Rattle.std.specs.Prelude.{◌≡◌, Bool, true, not, ◌&&◌, is_some, List, [], ◌∷◌, ◌++◌, filter, flat_map, map}
 use Rattle.extract_core.specs.declared.flags.EntryFlags.{EntryFlags}
 use Rattle.extract_core.specs.Selected.{is_among}

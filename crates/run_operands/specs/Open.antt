@@ -1,4 +1,4 @@
--- For `put_steps`: terms of steps, of which those are gathered whose index is known.
+-- Says how the code of `put_steps` reads: terms of steps, of which those are gathered whose index is known.
 use Rattle.std.specs.Prelude.{◌≡◌, ℕ, ◌+◌, ◌*◌, ◌≤◌, nat_lt, Bool, true, false, Option, Some, None, List, [], ◌∷◌, map, if◌then◌else◌}
 use Rattle.std.specs.List.{All}
 use Rattle.std.specs.Option.{option_map_or}

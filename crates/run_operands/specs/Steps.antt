@@ -1,4 +1,4 @@
--- For `put_steps`: where the indices of a `getelementptr` have led to so far, and what one leads over.
+-- Says how the code of `put_steps` reads: where the indices of a `getelementptr` have led to so far, and what one leads over.
 use Rattle.std.specs.Prelude.{◌≡◌, ℕ, ◌<◌, true, ⊤, length}
 use Rattle.module_arena.specs.TypeTests.{lies_in_memory}
 use Rattle.type_table.specs.Shape.{Shape, void_leaf, array_of}

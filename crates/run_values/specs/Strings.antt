@@ -1,4 +1,4 @@
--- For `push_string` and `plain_string`: strings of which no more than so many bytes are read, whatever is told where none of these is zero.
+-- Says how the code of `push_string` and `plain_string` reads: strings of which no more than so many bytes are read, whatever is told where none of these is zero.
 use Rattle.std.specs.Prelude.{ℕ, zero, suc, Bool, true, false, not, nat_eq, List, ◌++◌, Result, Ok, Err}
 use Rattle.ir_tables.specs.declared.undefined_kind.UndefinedKind.{UndefinedKind}
 use Rattle.ir_tables.specs.declared.undefined_kind.UndefinedKind.TheVariants.{PoisonArgument}

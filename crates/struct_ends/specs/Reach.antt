@@ -1,4 +1,5 @@
--- Says how the code reads: which numbers a number leads to, through lists of what each number mentions.
+-- For `StructMentions::contains_itself`, and how the code reads: which numbers a number leads to, through lists of what each
+-- number mentions.
 use Rattle.std.specs.Prelude.{◌≡◌, ◌⊎◌, ℕ, zero, suc, ◌<◌, ◌≤◌, Bool, true, false, List, ◌++◌, length, slice_index_or, nat_eq}
 use Rattle.std.specs.List.{IsDistinct}
 use Rattle.struct_order.specs.Order.{mentioned, HasNumber, stands_in}

@@ -1,4 +1,4 @@
--- For `struct_rows`: the rows in the making, by the structs that were looked at.
+-- Says how the code of `struct_rows` reads: the rows in the making, by the structs that were looked at.
 use Rattle.std.specs.Prelude.{◌≡◌, ℕ, ◌+◌, List, [], ◌∷◌, ◌++◌, map, length, slice_get, true, Some, None}
 use Rattle.linkage_rules.specs.Entries.{structs_at, symbol_name}
 use Rattle.linkage_rules.specs.Lists.{firsts}

@@ -1,4 +1,4 @@
--- For `run_tool`: what the work of a command comes to that has a result, and what writing that leaves.
+-- Says how the code of `run_tool` reads: what the work of a command comes to that has a result, and what writing that leaves.
 use Rattle.std.specs.Prelude.{◌≡◌, ◌⊎◌, ℕ, ◌<◌, List, Option}
 use Rattle.ir_base.specs.Outside.{Rose}
 use Rattle.command_line.specs.declared.command.Command.{Command}

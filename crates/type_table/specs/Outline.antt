@@ -1,5 +1,5 @@
--- Says how the code reads: what a type is but for its parts, and the ids of its parts, where a struct's name stands for
--- its body.
+-- For `form_of` and `parts` of run_shapes, and how the code reads: what a type is but for its parts, and the ids of its
+-- parts, where a struct's name stands for its body.
 use Rattle.std.specs.Prelude.{ℕ, zero, suc, max, Bool, true, false, List, [], ◌∷◌, slice_index_or, Option, Some, None}
 use Rattle.std.specs.Option.{option_map_or}
 use Rattle.type_table.specs.declared.ir_type.IrType.{IrType}

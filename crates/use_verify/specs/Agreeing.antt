@@ -1,4 +1,4 @@
--- For `PhiJudge::judge_phi`: entries that agree, by ids and classes of constants.
+-- Says how the code of `PhiJudge::judge_phi` reads: entries that agree, by ids and classes of constants.
 use Rattle.std.specs.Prelude.{ℕ, Bool, true, false, not, ◌||◌, ◌==◌, nat_lt, List, Option, Some, slice_get, slice_index_or}
 use Rattle.std.specs.List.{list_all}
 use Rattle.module_arena.specs.declared.instruction.Incoming.{Incoming}

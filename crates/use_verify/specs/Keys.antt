@@ -1,4 +1,4 @@
--- For `constant_classes`: what a constant is kept under while numbers are given out.
+-- Says how the code of `constant_classes` reads: what a constant is kept under while numbers are given out.
 use Rattle.std.specs.Prelude.{◌≡◌, ℕ, ◌<◌, List, map, length, slice_index_or, slice_get, Some}
 use Rattle.std.specs.List.{IsDistinct}
 use Rattle.module_arena.specs.declared.constant.Const.{Const}
