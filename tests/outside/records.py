@@ -152,15 +152,26 @@ class Texts:
 # What each struct is by its number: None, or whether it is packed and its fields.
 
 
-def measured(structs, ty, seen=()):
+def measured(structs, ty):
     """Nesting, parts, alignment, and size or None; an exception where a struct holds itself."""
+    return measured_once(structs, ty, (), {})
+
+
+def measured_once(structs, ty, seen, known):
+    """The same, behind the structs that were seen on the way, where those types are known."""
+    if ty not in known:
+        known[ty] = measured_anew(structs, ty, seen, known)
+    return known[ty]
+
+
+def measured_anew(structs, ty, seen, known):
     if ty[0] == "int":
         align = next(align for width, align in [(8, 1), (16, 2), (32, 4), (64, 8), (128, 16)] if ty[1] <= width)
         return 0, 1, align, -(-((ty[1] + 7) // 8) // align) * align
     if ty in (PTR, VOID):
         return (0, 1, 8, 8) if ty == PTR else (0, 1, 1, None)
     if ty[0] == "array":
-        nesting, parts, align, size = measured(structs, ty[2], seen)
+        nesting, parts, align, size = measured_once(structs, ty[2], seen, known)
         return nesting + 1, parts + 1, align, None if size is None else ty[1] * size
     if ty[0] == "named":
         if ty[1] in seen:
@@ -171,7 +182,7 @@ def measured(structs, ty, seen=()):
         seen = (*seen, ty[1])
     else:
         packed, fields = ty[1], ty[2]
-    each = {field: measured(structs, field, seen) for field in fields}
+    each = {field: measured_once(structs, field, seen, known) for field in fields}
     size, greatest = 0, 1
     for field in fields:
         align, field_size = each[field][2:]
