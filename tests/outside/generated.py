@@ -1,8 +1,9 @@
 #!/usr/bin/env python3
-"""Outside vectors: C programs that csmith makes at random, without undefined behaviour. Each is compiled by clang-19 at -O0, -O1, -O2 and -Os, run as a native
-program, and run by `lli`: its text; the bitcode that `llvm-as` writes of it; and what `llvm-link` makes of two parts into which `llvm-extract` cuts it. Status
-and output must be those of the native program. A text may be refused only for a word or an intrinsic that docs/language.md leaves out, and a run may end early
-only since its steps are used up; what is told of these is counted.
+"""Outside vectors: C programs that csmith makes at random, nearly all without undefined behaviour. Each is compiled by clang-19 at -O0, -O1, -O2 and
+-Os, run as a native program, and run by `lli`: its text; the bitcode that `llvm-as` writes of it; and what `llvm-link` makes of two parts into which
+`llvm-extract` cuts it. Status and output must be those of the native program; where that is killed, `lli` must tell what is undefined. A text may be
+refused only for a word or an intrinsic that docs/language.md leaves out, and a run may end early only since its steps are used up; what is told of
+these is counted.
 
     tests/outside/generated.py [PROGRAM [FIRST [COUNT]]]    ./ir-tools, and the seeds from 1 on, 100 of them, unless others are named
 
@@ -93,6 +94,9 @@ def compare(tool, seed, folder, counts):
                 counts[left_out[1].decode()] += 1
             elif (status, output) == expected:
                 counts["same"] += 1
+            elif expected[0] < 0 and errors.startswith(b"lli: undefined: "):
+                # What clang made of an undefined program may be killed; `lli` says why.
+                counts["undefined, and natively killed"] += 1
             else:
                 yield f"seed {seed}, {level}, {how}: {status}, {output[-80:]}, {errors[-160:]}, and natively {expected[0]}, {expected[1][-80:]}"
 
