@@ -55,15 +55,8 @@ abbrev pub CallsAt : Loaded → UnderWay → UnderWay → Blocks → Blocks → 
 CallsAt p old new m n callee parts arguments to next written =
     (body : Decoded) (due : List Due)
     → IsReady p (newest old.frames).function body
-    → called_at
-        (table (alone (module_of p.lists)))
-        callee
-        (signature_of body.pools p.lists parts)
-        (shapes_of body.pools p.lists parts)
-        arguments
-        to
-        (core_of old.frames due m)
-      ≡ next_of next (core_of new.frames due n) written
+    → called_at (table (alone (module_of p.lists))) callee (signature_of body.pools p.lists parts) (shapes_of body.pools p.lists parts) arguments to (core_of old.frames due m)
+    ≡ next_of next (core_of new.frames due n) written
 
 -- the frame has these allocas
 abbrev pub with_allocas : List Pointer → Frame → Frame
