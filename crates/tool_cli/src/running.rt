@@ -17,6 +17,7 @@ use run_machine::run_module;
 use run_played::early_ends_are_played;
 use run_rules::{End, RunFault};
 use std::alloc::Global;
+use std::mem::forget;
 use tool_ends::Ended;
 
 // No input: there is nothing to read, and no read fails.
@@ -73,14 +74,14 @@ fn fault_told(dash: Text, fault: RunFault) -> Ended
 // Runs the program of a module with these words, for at most so many steps.
 fn run_checked<I: Source, O: Sink>(
     alloc: Global,
-    checked: &Checked,
+    checked: Checked,
     words: &TextList,
     max_steps: u64,
     input: &mut I,
     output: &mut O,
 ) -> Ended
     requires { max_steps ≤ LARGEST_NUMBER }
-    ensures { IsRunTo (program_of max_steps words.now (module_of checked.now))
+    ensures { IsRunTo (program_of max_steps words.now (module_of checked))
         (streams I.Source O.Sink input.old output.old) (streams I.Source O.Sink input.new output.new) result }
 {
     // A run for which memory was wanted is that of a program which has printed nothing.
@@ -90,14 +91,17 @@ fn run_checked<I: Source, O: Sink>(
         Ok(dash) => dash,
         Err(_) => return Ended::Memory,
     };
-    match run_module(alloc, checked, words, max_steps, input, output) {
+    let run = run_module(alloc, &checked, words, max_steps, input, output);
+    // The program ends soon, which gives all memory back at once.
+    forget(checked);
+    match run {
         Ok(end) => end_told(alloc, end),
         Err(fault) => fault_told(dash, fault),
     }
 }
 
-/// Runs the module that the input of this name stands for, with these words, for at most so many steps. The input is let
-/// go before the run begins. Where it came from standard input, the program has no input.
+/// Runs the module that the input of this name stands for, with these words, for at most so many steps. The bytes of the
+/// input are let go before the run begins. Where it came from standard input, the program has no input.
 pub(crate) fn run_bytes<I: Source, O: Sink>(
     alloc: Global,
     name: &Text,
@@ -121,8 +125,8 @@ pub(crate) fn run_bytes<I: Source, O: Sink>(
     };
     if is_dash(name.bytes()) {
         let mut nothing = NoInput;
-        run_checked(alloc, &checked, words, max_steps, &mut nothing, output)
+        run_checked(alloc, checked, words, max_steps, &mut nothing, output)
     } else {
-        run_checked(alloc, &checked, words, max_steps, input, output)
+        run_checked(alloc, checked, words, max_steps, input, output)
     }
 }
