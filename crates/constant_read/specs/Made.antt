@@ -1,4 +1,4 @@
--- For `read_constant`: constants that are made of others, where these are known.
+-- For `read_coded`: constants that are made of others, where these are known.
 use Rattle.std.specs.Prelude.{◌≡◌, ℕ, zero, suc, ◌<◌, List, All, length, Option, Some, None}
 use Rattle.ir_tables.specs.declared.opcode.Opcode.{Opcode}
 use Rattle.module_arena.specs.declared.constant.Const.{Const}

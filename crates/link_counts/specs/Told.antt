@@ -1,4 +1,5 @@
--- For `count_symbols`, `too_many_entries` and `too_many`: symbols of one kind, the counts of entries and structs, and the sizes of appended arrays.
+-- For `too_many_entries` and `too_many`, and how the code of `count_symbols` reads: symbols of one kind, the counts of entries and structs, and the
+-- sizes of appended arrays.
 use Rattle.std.specs.Prelude.{ℕ, List, [], ◌∷◌, Option, Some, None, nat_lt, filter, filter_map, length, if◌then◌else◌}
 use Rattle.linkage_rules.specs.Conflicts.{appends}
 use Rattle.linkage_rules.specs.Entries.{Entry}

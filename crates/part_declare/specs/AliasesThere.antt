@@ -1,4 +1,4 @@
--- For `declare_entries`: the new arena once aliases are declared as what they become.
+-- For `declare_aliases`: the new arena once aliases are declared as what they become.
 use Rattle.std.specs.Prelude.{◌≡◌, ℕ, ◌+◌, ◌++◌, List, map, length, slice_get, option_to_list, Option, Some}
 use Rattle.module_arena.specs.declared.entry.GlobalId.{GlobalId}
 use Rattle.module_arena.specs.declared.entry.GlobalId.TheVariants as global

@@ -1,4 +1,4 @@
--- For `gather_body`, `look_ahead` and `declare_entries`: what is counted ahead of what is read.
+-- Says how the code of `gather_body`, `look_ahead` and `declare_entries` reads: what is counted ahead of what is read.
 use Rattle.std.specs.Prelude.{ℕ, Bool, true, false}
 
 -- 1 where it holds

@@ -1,4 +1,4 @@
--- For `push_leaves`: the leaves of a value of which each is filled alike, wherever they lie.
+-- For `leaf_in`, and how the code of `push_leaves` reads: the leaves of a value of which each is filled alike, wherever they lie.
 use Rattle.std.specs.Prelude.{ℕ, zero, suc, List, [], ◌∷◌, ◌++◌}
 use Rattle.ir_eval.specs.declared.value.Scalar.{Scalar}
 use Rattle.ir_eval.specs.declared.value.Scalar.TheVariants as scalar
