@@ -24,19 +24,19 @@ returns-then-is_dash-clause-not_begun g c =
     let after = streams g.I.Source g.O.Sink c.args.input.now c.run_checked.new.output in
     λ early. absurd (begun_from_nothing c.args.name.now (program_of c.args.max_steps c.args.words.now (module_of c.in-Ok.checked)) before after c.run_checked.result c.run_checked.ensures early)
 
-pub returns-clause-ran : goal.returns-clause-ran
-returns-clause-ran g c =
+pub returns-else-is_dash-clause-ran : goal.returns-else-is_dash-clause-ran
+returns-else-is_dash-clause-ran g c =
     let before = streams g.I.Source g.O.Sink c.args.input.now c.args.output.now in
     let after = streams g.I.Source g.O.Sink c.run_checked-else-is_dash.new.input c.run_checked-else-is_dash.new.output in
     let m = module_of c.in-Ok.checked in
     program_ran c.args.name.now c.args.max_steps c.args.words.now c.args.bytes m before after c.run_checked-else-is_dash.result c.in-Ok.ensures.part
     (run_from_input c.args.name.now (program_of c.args.max_steps c.args.words.now m) before after c.run_checked-else-is_dash.result (rw c.bytes.ensures at (sym c.is_dash.ensures ∙ c.if-is_dash.false)) c.run_checked-else-is_dash.ensures)
 
-pub returns-clause-unread : goal.returns-clause-unread
-returns-clause-unread g c = λ dash. absurd (true≢false (sym dash ∙ rw c.bytes.ensures at (sym c.is_dash.ensures ∙ c.if-is_dash.false)))
+pub returns-else-is_dash-clause-unread : goal.returns-else-is_dash-clause-unread
+returns-else-is_dash-clause-unread g c = λ dash. absurd (true≢false (sym dash ∙ rw c.bytes.ensures at (sym c.is_dash.ensures ∙ c.if-is_dash.false)))
 
-pub returns-clause-not_begun : goal.returns-clause-not_begun
-returns-clause-not_begun g c =
+pub returns-else-is_dash-clause-not_begun : goal.returns-else-is_dash-clause-not_begun
+returns-else-is_dash-clause-not_begun g c =
     let before = streams g.I.Source g.O.Sink c.args.input.now c.args.output.now in
     let after = streams g.I.Source g.O.Sink c.run_checked-else-is_dash.new.input c.run_checked-else-is_dash.new.output in
     λ early. absurd (begun_from_input c.args.name.now (program_of c.args.max_steps c.args.words.now (module_of c.in-Ok.checked)) before after c.run_checked-else-is_dash.result (rw c.bytes.ensures at (sym c.is_dash.ensures ∙ c.if-is_dash.false)) c.run_checked-else-is_dash.ensures early)
