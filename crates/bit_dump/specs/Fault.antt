@@ -1,4 +1,4 @@
--- Says how the code reads: a fault of the stream, or want of memory, as `dump` answers it.
+-- For `from` of `DumpFault`: a fault of the stream, or want of memory, as `dump` answers it.
 use Rattle.bit_stream.specs.declared.fault.StreamFault.{StreamFault}
 use Rattle.bit_stream.specs.declared.fault.StreamFault.TheVariants as stream
 use Rattle.bit_dump.specs.declared.fault.DumpFault.{DumpFault}

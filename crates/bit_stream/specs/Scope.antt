@@ -1,4 +1,4 @@
--- For `new` and `abbreviation` of `Scope`, and all calls of `BitReader` and `BitWriter`: the blocks that are open at a
+-- For all calls of `BitReader` and `BitWriter`, and how the code of `Scope` reads: the blocks that are open at a
 -- place of a stream, and the abbreviations that are in force there.
 use Rattle.std.specs.Prelude.{ℕ, ◌-◌, List, [], ◌∷◌, ◌++◌, Option, Some, None, if◌then◌else◌, nat_lt, slice_get, unwrap_or}
 use Rattle.std.specs.Ordering.{nat_cmp}

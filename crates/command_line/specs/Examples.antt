@@ -1,4 +1,4 @@
--- For `read_words`: lines that compute.
+-- Says how the code of `read_words` reads: lines that compute.
 use Rattle.std.specs.Prelude.{◌≡◌, [], ◌∷◌, codes, refl, Ok, Err, Some, None}
 use Rattle.command_line.specs.declared.command.UsageKind.TheVariants.{NoTool, Repeated, NoFile}
 use Rattle.command_line.specs.declared.command.OutputName.TheVariants.{File}

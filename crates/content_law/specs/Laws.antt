@@ -1,4 +1,4 @@
--- For `read` of bitcode: the law of content.
+-- For `content_is_enough`: the law of content.
 use Rattle.std.specs.Prelude.{◌≡◌}
 use Rattle.bit_tree.specs.Stream.{StreamTree}
 use Rattle.bit_tree.specs.Content.{content}

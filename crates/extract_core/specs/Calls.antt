@@ -1,4 +1,4 @@
--- For `choose`: names that are added to others, and the functions that entries of an arena call.
+-- For `add_name`, and how the code of `choose` reads: names that are added to others, and the functions that entries of an arena call.
 use Rattle.std.specs.Prelude.{◌≡◌, ℕ, ◌<◌, ◌||◌, ⊤, All, slice_get, List, [], ◌++◌, map, filter, flat_map, length}
 use Rattle.std.specs.Option.{option_map_or}
 use Rattle.module_arena.specs.declared.entry.Block.{Block}

@@ -1,4 +1,5 @@
--- For `put_operand`, `put_instruction` and `put_ending`: what the ids in a function of an arena stand for.
+-- For `put_value`, `put_incoming`, `put_operand`, `put_instruction` and `put_ending` of the writers of records, and how the code reads: what
+-- the ids in a function of an arena stand for.
 use Rattle.std.specs.Prelude.{ℕ, List, map}
 use Rattle.type_table.specs.Types.{trees}
 use Rattle.module_arena.specs.declared.entry.Block as the_block

@@ -1,4 +1,4 @@
--- For `host_row_fits`: how the code writes the types of host functions.
+-- For `has_short_form`, and how the code of `host_row_fits` reads: how the code writes the types of host functions.
 use Rattle.std.specs.Prelude.{Bool, true, false, ◌&&◌, ◌||◌, ◌==◌, List, [], ◌∷◌, is_none}
 use Rattle.type_table.specs.declared.ir_type.IrType.{IrType}
 use Rattle.type_table.specs.declared.ir_type.IrType.TheVariants as type

@@ -1,5 +1,5 @@
--- For `choose`, `missing_name` and `Copier`: the variables and functions that are named in a constant, an instruction,
--- an initialiser or a body.
+-- For `named_by_kept`, `missing_name`, and `copy_constants` and `copy_body` of `Copier`: the variables and functions that are named in a
+-- constant, an instruction, an initialiser or a body.
 use Rattle.std.specs.Prelude.{List, [], ◌∷◌, ◌++◌, flat_map}
 use Rattle.std.specs.Option.{option_map_or}
 use Rattle.module_arena.specs.Module.{Bytes, Constant, Integer, Truth, Null, Undef, Poison, ZeroInitializer, Address, ByteString, Aggregate, ElementAddress, Cast, Binary, Constants, no_constants, more_constants, Value, Local, Known, Operand, Incoming, Operation, BinaryOperation, Compare, Convert, Select, Freeze, Phi, Load, Store, Alloca, GetElementPtr, Call, ExtractValue, InsertValue, Instruction, Case, Ending, ReturnVoid, Return, Jump, Branch, Switch, Unreachable, Block, Variable, Function}

@@ -1,4 +1,5 @@
--- For `put_constant` and `put_value`: the forms of constants, and when values stand in operands as they are.
+-- For `put_typed`, `put_value` and `put_operand`, and how the code of `put_constant` reads: the forms of constants, and when values stand in
+-- operands as they are.
 use Rattle.std.specs.Prelude.{ℕ, ◌<◌, List, [], ◌∷◌, length, drop, ⊤}
 use Rattle.std.specs.List.{IsDistinct}
 use Rattle.type_table.specs.Tree.{Tree}

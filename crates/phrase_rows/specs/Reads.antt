@@ -1,4 +1,4 @@
--- For `read_items`: the fronts of a row's phrases, and what it is that its reader reads the row.
+-- For `read_items`, and how the code reads: the fronts of a row's phrases, and what it is that its reader reads the row.
 use Rattle.std.specs.Prelude.{◌≡◌, ℕ, ◌≤◌, List, [], ◌∷◌, ◌++◌, length, true, false, ◌⊎◌}
 use Rattle.phrase_rows.specs.Row.{Reading, Done, Bad, PhraseShape, Row, among}
 

@@ -1,4 +1,4 @@
--- For `write` of bitcode: what a body must be so that its lines are read back. Each line fits where it stands, and what it
+-- For `bodies_are_read_back`: what a body must be so that its lines are read back. Each line fits where it stands, and what it
 -- declares is new.
 use Rattle.std.specs.Prelude.{◌≡◌, ℕ, true, List, [], ◌∷◌, ⊤}
 use Rattle.module_arena.specs.Module.{Bytes, LocalName, Instruction, Block, Function}

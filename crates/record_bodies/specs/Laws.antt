@@ -1,4 +1,4 @@
--- For `write` and `read` of bitcode: the law of bodies.
+-- For `bodies_are_read_back`: the law of bodies.
 use Rattle.std.specs.Prelude.{◌≡◌, ℕ, List, length, Ok}
 use Rattle.bit_tree.specs.Written.{no_more}
 use Rattle.module_arena.specs.Module.{LocalName, Block, Function}

@@ -1,4 +1,4 @@
--- For `write` and `read` of bitcode: the law of modules that fit.
+-- For `modules_fit` and `written_trees_stand`: the law of modules that fit.
 use Rattle.bit_stream.specs.Writer.{begun}
 use Rattle.bit_tree.specs.Written.{tree_of}
 use Rattle.module_arena.specs.Module.{Module}

@@ -1,4 +1,4 @@
--- For `write` of bitcode: what a variable or an alias must be so that its record is read back.
+-- For `modules_are_read_back`: what a variable or an alias must be so that its record is read back.
 use Rattle.std.specs.Prelude.{[], bytes_eq}
 use Rattle.std.specs.List.{AllByRecursion}
 use Rattle.type_table.specs.declared.measure.TheConstants.{NESTING_LIMIT}

@@ -1,4 +1,4 @@
--- For `write` of bitcode: what a module must be so that its records are read back.
+-- For `modules_are_read_back`: what a module must be so that its records are read back.
 use Rattle.std.specs.Prelude.{◌≡◌, ℕ, suc, ◌+◌, max, nat_lt, nat_le, Bool, true, false, List, [], ◌∷◌, ◌++◌, length, zip, is_some, Option, Some, None, Ok, ⊤}
 use Rattle.std.specs.List.{AllByRecursion, fold}
 use Rattle.module_arena.specs.declared.arena.TheConstants.{COUNT_LIMIT}

@@ -1,4 +1,4 @@
--- For `write` and `read` of bitcode: the laws of whole modules.
+-- For `modules_are_read_back` and the laws beside it: the laws of whole modules.
 use Rattle.std.specs.Prelude.{◌≡◌, ◌⊎◌, Some}
 use Rattle.std.specs.List.{AllByRecursion}
 use Rattle.bit_stream.specs.Writer.{begun}

@@ -1,5 +1,5 @@
--- For `write` of bitcode: what a constant must be so that its operands are read back. It is what validity says of constants,
--- and what every module keeps of the names, indices and limits in them.
+-- For `constants_are_read_back` and `values_are_read_back`: what a constant must be so that its operands are read back. It is what validity
+-- says of constants, and what every module keeps of the names, indices and limits in them.
 use Rattle.std.specs.Prelude.{◌≡◌, ℕ, zero, suc, ◌^◌, nat_lt, true, length, [], bytes_eq, ⊤}
 use Rattle.ir_tables.specs.declared.opcode.Opcode.TheVariants.{GetElementPtr}
 use Rattle.type_table.specs.declared.measure.TheConstants.{NESTING_LIMIT}

@@ -1,5 +1,6 @@
--- For `write` of bitcode: what an instruction or an end must be so that its operands are read back. Beside indices, flags
--- and limits these are types that no record says, because validity does: of addresses, conditions, callees, arguments and cases.
+-- For `instructions_are_read_back` and `endings_are_read_back`: what an instruction or an end must be so that its operands are read back.
+-- Beside indices, flags and limits these are types that no record says, because validity does: of addresses, conditions, callees, arguments
+-- and cases.
 use Rattle.std.specs.Prelude.{◌≡◌, ℕ, nat_lt, Bool, true, false, List, [], ◌∷◌, Option, Some, None, ⊤}
 use Rattle.std.specs.List.{AllByRecursion}
 use Rattle.ir_tables.specs.declared.opcode.Opcode.TheVariants as op

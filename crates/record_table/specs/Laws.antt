@@ -1,4 +1,5 @@
--- For `write` and `read` of bitcode: the laws of texts and names in records of version 2.
+-- For `texts_are_held`, `texts_are_read_back`, `names_are_read_back` and `labels_are_read_back`: the laws of texts and names in records of
+-- version 2.
 use Rattle.std.specs.Prelude.{◌≡◌, ℕ, true, List}
 use Rattle.module_arena.specs.Module.{Bytes}
 use Rattle.record_table.specs.Fields.{name, label}

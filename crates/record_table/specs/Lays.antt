@@ -1,4 +1,5 @@
--- For `write` and `read` of bitcode: that what a layout spells is read back.
+-- For `texts_are_read_back`, `names_are_read_back`, `labels_are_read_back`, `constants_are_read_back`, `values_are_read_back` and
+-- `instructions_are_read_back`: that what a layout spells is read back.
 use Rattle.std.specs.Prelude.{◌≡◌, ℕ, List, ◌++◌, None}
 use Rattle.record_table.specs.Walk.{going}
 use Rattle.record_table.specs.Layout.{Layout}

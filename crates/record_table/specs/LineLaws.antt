@@ -1,4 +1,5 @@
--- For `write` and `read` of bitcode: the laws of constants and lines as operands.
+-- For `constants_are_read_back`, `values_are_read_back`, `instructions_are_read_back` and `endings_are_read_back`: the laws of constants and
+-- lines as operands.
 use Rattle.std.specs.Prelude.{◌≡◌, ℕ, List, ◌++◌, None}
 use Rattle.type_table.specs.declared.measure.TheConstants.{NESTING_LIMIT}
 use Rattle.type_table.specs.Tree.{Tree}

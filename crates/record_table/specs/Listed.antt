@@ -1,4 +1,5 @@
--- For `write` of bitcode: what records may name, so that `read` finds it again.
+-- For `names_are_read_back`, `labels_are_read_back`, `constants_are_read_back`, `values_are_read_back`, `instructions_are_read_back` and
+-- `endings_are_read_back`: what records may name, so that `read` finds it again.
 use Rattle.std.specs.Prelude.{◌≡◌, ℕ, nat_lt, Bool, true, List, [], ◌∷◌, length, Option, None, slice_index_or}
 use Rattle.std.specs.List.{AllByRecursion}
 use Rattle.ir_tables.specs.declared.opcode.Opcode.{Opcode}

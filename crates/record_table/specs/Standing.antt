@@ -1,6 +1,6 @@
--- For `write` of bitcode: what an instruction or an end must be so that its operands are those of its layout. It asks less than
--- that they are read back: integers have room in their operands, alignments have codes, and operands whose types no record says
--- have the types of their places.
+-- For `put_constant`, `put_value`, `put_instruction` and `put_ending` of the writers of records: what an instruction or an end must be so that
+-- its operands are those of its layout. It asks less than that they are read back: integers have room in their operands, alignments have
+-- codes, and operands whose types no record says have the types of their places.
 use Rattle.std.specs.Prelude.{◌≡◌, ℕ, ◌<◌, ◌^◌, nat_lt, Bool, true, false, List, [], ◌∷◌, Option, Some, None, All, ⊤}
 use Rattle.ir_tables.specs.declared.width.TheConstants.{WIDEST}
 use Rattle.type_table.specs.Tree.{Tree, int, ptr, void, array, struct, named}

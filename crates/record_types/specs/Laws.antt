@@ -1,4 +1,4 @@
--- For `write` and `read` of bitcode: the law of the block of types.
+-- For `types_are_read_back`: the law of the block of types.
 use Rattle.std.specs.Prelude.{ℕ}
 use Rattle.module_arena.specs.Module.{Module}
 use Rattle.module_arena.specs.WellFormed.{IsWellFormed}

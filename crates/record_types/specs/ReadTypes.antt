@@ -1,4 +1,4 @@
--- For `write` and `read` of bitcode: that the block of types which is written of a module is read as its types and structs.
+-- For `types_are_read_back`: that the block of types which is written of a module is read as its types and structs.
 use Rattle.std.specs.Prelude.{◌≡◌, ℕ, Ok}
 use Rattle.bit_tree.specs.Written.{no_more}
 use Rattle.type_table.specs.Types.{trees, structs}

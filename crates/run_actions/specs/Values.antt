@@ -1,4 +1,4 @@
--- For `select`, `freeze` and `gather`: the operands of an action as the code has them, a leaf of each.
+-- For `select` and `freeze`: the operands of an action as the code has them, a leaf of each.
 use Rattle.std.specs.Prelude.{Bool}
 use Rattle.run_rules.specs.Action as actions
 use Rattle.run_stack.specs.Origins.{origin_of}

@@ -1,4 +1,4 @@
--- For `halt` of what makes steps, and for `run`: what is answered where no step is left.
+-- For `halt` of what makes steps, and how the code of `run` reads: what is answered where no step is left.
 use Rattle.std.specs.Prelude.{Result, Ok, Err}
 use Rattle.run_rules.specs.declared.end.End.{End}
 use Rattle.run_rules.specs.declared.fault.RunFault.{RunFault}

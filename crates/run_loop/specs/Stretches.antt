@@ -1,4 +1,4 @@
--- For `go_on` of what makes steps, and for `run`: steps that are made in one go.
+-- For `go_on` of what makes steps, and how the code of `run` reads: steps that are made in one go.
 use Rattle.std.specs.Prelude.{◌≡◌, ℕ, zero, suc, ◌<◌, Option, Some, None, Result, Ok, Err}
 use Rattle.run_rules.specs.declared.end.End.{End}
 use Rattle.run_rules.specs.declared.fault.RunFault.{RunFault}

@@ -1,4 +1,4 @@
--- For `names_of` and `Names`: what is told of a module that is run alone.
+-- For `callee`, `address` and `bounds` of `Names`: what is told of a module that is run alone.
 use Rattle.std.specs.Prelude.{◌≡◌, true, ⊤, List, [], ◌∷◌, Some, slice_get}
 use Rattle.std.specs.Option.{option_map_or}
 use Rattle.module_arena.specs.declared.entry.Function.{Function}

@@ -1,4 +1,4 @@
--- For `a_valid_module_never_gets_stuck`: where a run can come to, which is the part of typing that speaks of places alone.
+-- For `steps_stay_typed` and `opening_is_typed`: where a run can come to, which is the part of typing that speaks of places alone.
 use Rattle.std.specs.Prelude.{◌≡◌, ℕ, ◌+◌, false, true, ⊤, List, [], ◌∷◌, map}
 use Rattle.std.specs.List.{All}
 use Rattle.module_arena.specs.HostRows.{host_types}

@@ -1,4 +1,4 @@
--- For `write` and `read` of bitcode: the law of records.
+-- For `modules_are_spelled_alone`: the law of records.
 use Rattle.std.specs.Prelude.{◌<◌, ◌/◌, length}
 use Rattle.bit_stream.specs.declared.item.TheConstants.{WORDS_LIMIT}
 use Rattle.module_arena.specs.Module.{Module}

@@ -1,4 +1,4 @@
--- For `read_inputs` and `run_tool`: in which order inputs are read. One that is refused leaves those behind it untouched.
+-- For `run_tool`, and how the code of `read_inputs` reads: in which order inputs are read. One that is refused leaves those behind it untouched.
 use Rattle.std.specs.Prelude.{◌≡◌, ◌⊎◌, ℕ, Bool, false, not, List, [], ◌∷◌, Option, Some, None, Err, if◌then◌else◌}
 use Rattle.std.specs.List.{IsAmong, list_any}
 use Rattle.ir_base.specs.Files.{Named}

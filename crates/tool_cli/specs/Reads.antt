@@ -1,4 +1,5 @@
--- For `read_inputs` and `run_tool`: what a call that reads inputs leaves, and what a run does: they say so beside their answers.
+-- For `run_tool`, and how the code of `read_inputs` reads: what a call that reads inputs leaves, and what a run does: they say so beside their
+-- answers.
 use Rattle.std.specs.Prelude.{◌≡◌, ◌⊎◌, ℕ, ◌+◌, ◌<◌, ◌≤◌, Bool, true, false, List, length, codes, Option, Result, IsErrAnd, OnOk}
 use Rattle.std.specs.Bool.{MatchBool}
 use Rattle.std.specs.List.{IsAmong}

@@ -1,4 +1,5 @@
--- For `read_inputs` and `run_tool`: what is outside of a run at one time, and what it tells. The clauses on what was read and written speak of that.
+-- For `run_tool`, and how the code of `read_inputs` reads: what is outside of a run at one time, and what it tells. The clauses on what was
+-- read and written speak of that.
 use Rattle.std.specs.Prelude.{ℕ, List, Option}
 use Rattle.ir_base.specs.Files.{Named}
 use Rattle.ir_base.specs.Outside.{Rose}
