@@ -98,6 +98,7 @@ impl<'a> LocalIds<'a> {
     }
 
     /// Gives the next id to what is called so where the next number is this one.
+    #[inline(always)]
     pub fn add(
         &mut self,
         alloc: Global,
@@ -115,6 +116,7 @@ impl<'a> LocalIds<'a> {
     }
 
     /// The id, where it is one that is called so.
+    #[inline(always)]
     fn confirmed(&self, hint: Option<u32>, written: &Local) -> Option<u32>
         ensures { IfSome result (λ id. slice_get (map local_view self.now.names.items) id ≡ Some (local_in written.now)) }
     {
