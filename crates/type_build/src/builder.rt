@@ -5,8 +5,8 @@ ghost use Rattle.type_table.specs.Shape.{shape};
 ghost use Rattle.type_table.specs.Tree.{Structs, int, ptr};
 ghost use Rattle.type_table.specs.declared.ir_type.IrType.TheVariants.{Int, Ptr};
 ghost use Rattle.type_table.specs.Types.{IsKnown, names, trees, structs, tree_of};
-ghost use Rattle.module_arena.specs.Lists.{no_lists};
-ghost use Rattle.module_arena.specs.Known.{counts, KnowsConst};
+ghost use Rattle.module_arena.specs.Lists.{no_lists, name_at};
+ghost use Rattle.module_arena.specs.Known.{counts, HasGlobal, KnowsConst};
 ghost use Rattle.module_arena.specs.Module as m;
 ghost use Rattle.module_arena.specs.declared.constant.Const.TheVariants as the_const;
 ghost use Rattle.module_arena.specs.Changes.{constant_in};
@@ -17,7 +17,7 @@ use crate::constant_places::ConstantPlaces;
 use crate::copies::copied_const;
 use crate::type_places::TypePlaces;
 use crate::wanting::type_out_of_memory;
-use module_arena::{Arena, Const, ConstId};
+use module_arena::{Arena, Const, ConstId, GlobalId};
 use std::alloc::{AllocError, Global};
 use type_table::{IrType, TypeId};
 
@@ -159,7 +159,7 @@ impl Builder {
 
     /// The id of the integer, of which no equal one was found, and which is added.
     #[inline(never)]
-    fn keep_new_number(&mut self, number: u128) -> Result<ConstId, AllocError>
+    fn keep_new_number(&mut self, alloc: Global, number: u128) -> Result<ConstId, AllocError>
         ensures grows { OnOk result (Grows self.old.arena self.new.arena) }
         ensures is { IfOk result (λ id. IsConstant self.new.arena id (m.Integer number)) }
     {
@@ -167,12 +167,12 @@ impl Builder {
         let Ok(id) = self.arena.add_const(Const::Integer(number)) else {
             return Err(AllocError);
         };
-        self.constants.insert_integer(number, id)?;
+        self.constants.insert_integer(alloc, number, id)?;
         Ok(id)
     }
 
     /// The id of the integer, which is added where it is not there.
-    pub(crate) fn keep_number(&mut self, number: u128) -> Result<ConstId, AllocError>
+    pub(crate) fn keep_number(&mut self, alloc: Global, number: u128) -> Result<ConstId, AllocError>
         ensures grows { OnOk result (Grows self.old.arena self.new.arena) }
         ensures is { IfOk result (λ id. IsConstant self.new.arena id (m.Integer number)) }
     {
@@ -180,7 +180,53 @@ impl Builder {
         if let Some(id) = self.find_number(number) {
             return Ok(id);
         }
-        self.keep_new_number(number)
+        self.keep_new_number(alloc, number)
+    }
+
+    /// Where the address of the entry is.
+    fn find_address_of(&self, entry: &GlobalId) -> Option<ConstId>
+        ensures { IfSome result (λ id. slice_get self.now.arena.constants id ≡ Some (the_const.Address entry.now)) }
+    {
+        let id = self.constants.address(entry)?;
+        if id.number() >= self.arena.const_count() {
+            return None;
+        }
+        match self.arena.constant(id) {
+            Const::Address(known) if *known == *entry => Some(id),
+            _ => None,
+        }
+    }
+
+    /// The id of the address of the entry, of which no equal one was found, and which is added.
+    #[inline(never)]
+    fn keep_new_address(&mut self, alloc: Global, entry: &GlobalId) -> Result<ConstId, AllocError>
+        requires { HasGlobal (counts self.old.arena) entry.now }
+        ensures grows { OnOk result (Grows self.old.arena self.new.arena) }
+        ensures is { IfOk result (λ id. IsConstant self.new.arena id (m.Address (name_at self.old.arena entry.now))) }
+    {
+        let _good = self.arena.variable_count();
+        let Ok(id) = self.arena.add_const(Const::Address(*entry)) else {
+            return Err(AllocError);
+        };
+        self.constants.insert_address(alloc, entry, id)?;
+        Ok(id)
+    }
+
+    /// The id of the address of the entry, which is added where it is not there.
+    pub(crate) fn keep_entry(
+        &mut self,
+        alloc: Global,
+        entry: &GlobalId,
+    ) -> Result<ConstId, AllocError>
+        requires { HasGlobal (counts self.old.arena) entry.now }
+        ensures grows { OnOk result (Grows self.old.arena self.new.arena) }
+        ensures is { IfOk result (λ id. IsConstant self.new.arena id (m.Address (name_at self.old.arena entry.now))) }
+    {
+        let _good = self.arena.variable_count();
+        if let Some(id) = self.find_address_of(entry) {
+            return Ok(id);
+        }
+        self.keep_new_address(alloc, entry)
     }
 
     /// Where an equal constant is.
@@ -195,7 +241,7 @@ impl Builder {
         }
     }
 
-    /// The id of the constant, which is no integer, and which is added where no equal one is there.
+    /// The id of the constant, which is no integer and no address, and which is added where no equal one is there.
     #[inline(never)]
     fn keep_other(&mut self, alloc: Global, constant: Const) -> Result<ConstId, AllocError>
         requires { KnowsConst (length self.old.arena.table.types) (counts self.old.arena) (length self.old.arena.constants) constant }
@@ -221,7 +267,8 @@ impl Builder {
         ensures is { IfOk result (λ id. IsConstant self.new.arena id (constant_in self.old.arena constant)) }
     {
         match constant {
-            Const::Integer(number) => self.keep_number(number),
+            Const::Integer(number) => self.keep_number(alloc, number),
+            Const::Address(entry) => self.keep_entry(alloc, &entry),
             other => self.keep_other(alloc, other),
         }
     }

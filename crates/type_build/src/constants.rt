@@ -75,7 +75,9 @@ impl Builder {
             IsConstant self.new.arena id (constant_in (type_in (type_view ty.now)) (constant_view constant.now))) }
     {
         match constant {
-            Constant::Integer(negative, _, magnitude) => self.add_number(ty, *negative, magnitude),
+            Constant::Integer(negative, _, magnitude) => self.add_number(
+                alloc, ty, *negative, magnitude,
+            ),
             _ => self.add_written_constant(alloc, constant, ty),
         }
     }
@@ -96,7 +98,9 @@ impl Builder {
             IsConstant self.new.arena id (constant_in (type_in (type_view ty.now)) (constant_view constant.now))) }
     {
         match constant {
-            Constant::Integer(negative, _, magnitude) => self.add_number(ty, *negative, magnitude),
+            Constant::Integer(negative, _, magnitude) => self.add_number(
+                alloc, ty, *negative, magnitude,
+            ),
             Constant::Simple(word, _) => self.keep_constant(alloc, simple_const(ty, *word)),
             Constant::Global(name) => self.add_address(alloc, name),
             Constant::Bytes(text) => {
@@ -127,6 +131,7 @@ impl Builder {
 
     fn add_number(
         &mut self,
+        alloc: Global,
         ty: &Type,
         negative: bool,
         magnitude: &Number,
@@ -138,7 +143,7 @@ impl Builder {
             IsConstant self.new.arena id (m.Integer (reduced_to (bits_at (type_in (type_view ty.now))) negative magnitude.now))) }
     {
         let number = reduced(bits_of(ty), negative, magnitude);
-        self.keep_number(number)
+        self.keep_number(alloc, number)
     }
 
     fn add_address(&mut self, alloc: Global, name: &PlacedName) -> Result<ConstId, AllocError>
@@ -150,7 +155,7 @@ impl Builder {
         let Some(global) = self.arena.lookup(&name) else {
             unreachable!();
         };
-        self.keep_constant(alloc, Const::Address(global))
+        self.keep_entry(alloc, &global)
     }
 
     fn keep_address(

@@ -19,6 +19,7 @@ mod constants;
 mod copies;
 mod functions;
 mod heads;
+mod id_pages;
 mod integers;
 mod type_places;
 mod types;

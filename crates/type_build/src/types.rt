@@ -16,8 +16,9 @@ use std::alloc::{AllocError, Global};
 use type_table::{IrType, TypeId, TypeList};
 
 impl Builder {
-    /// Where the type that the text writes is, if it is `ptr` or an integer type.
-    fn find_plain(&self, ty: &Type) -> Option<TypeId>
+    /// Where the type that the text writes is, if it is `ptr` or an integer type, and is there.
+    #[inline(always)]
+    pub fn find_plain(&self, ty: &Type) -> Option<TypeId>
         ensures { IfSome result (λ id. IsType self.now.arena id (type_in (type_view ty.now))) }
     {
         match ty {

@@ -1,21 +1,21 @@
 use Rattle.std.proofs.Common.{Some, sym, subst, ap, ◌∙◌, IfOk}
 use Rattle.module_arena.specs.Module as m
 use Rattle.type_build.specs.Stands.{IsConstant}
-use Rattle.type_build.proofs.Known.{has_global, is_named, knows_address}
+use Rattle.type_build.proofs.Known.{has_global, is_named}
 use Rattle.type_build.proofs.Staying.{entry_named}
 use Rattle.type_build.proofs.builder.Builder.add_address.Goals as goal
 
-pub keep_constant-requires : goal.keep_constant-requires
-keep_constant-requires c =
+pub keep_entry-requires : goal.keep_entry-requires
+keep_entry-requires c =
     let a = c.args.self.now.arena in
     let named = (c.lookup.ensures c.in-Some.global).0 c.in-Some.is in
-    knows_address a c.in-Some.global (has_global a c.in-Some.global _ named)
+    has_global a c.in-Some.global _ named
 
 pub returns-clause-is : goal.returns-clause-is
 returns-clause-is c =
     let a = c.args.self.now.arena in
     let named = (c.lookup.ensures c.in-Some.global).0 c.in-Some.is in
-    subst (λ n. IfOk c.keep_constant.result (λ id. IsConstant c.keep_constant.new.self.arena id (m.Address n))) (is_named a c.in-Some.global _ named ∙ c.in_ok-name.ensures) c.keep_constant.ensures.is
+    subst (λ n. IfOk c.keep_entry.result (λ id. IsConstant c.keep_entry.new.self.arena id (m.Address n))) (is_named a c.in-Some.global _ named ∙ c.in_ok-name.ensures) c.keep_entry.ensures.is
 
 pub unreachable-requires : goal.unreachable-requires
 unreachable-requires c =
