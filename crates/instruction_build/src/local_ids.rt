@@ -177,14 +177,22 @@ impl<'a> LocalIds<'a> {
         self.search(written)
     }
 
+    /// The id, where it is a number that is where its hint is.
+    #[inline(always)]
+    pub(crate) fn find_number(&self, written: &Local) -> Option<u32>
+        ensures { IfSome result (λ id. slice_get (map local_view self.now.names.items) id ≡ Some (local_in written.now)) }
+    {
+        let hint = self.hint_of_number(written);
+        self.confirmed(hint, written)
+    }
+
     /// An id that is called so. A number, which is nearly always where its hint is, pays for none of the room of names.
     pub fn find(&self, written: &Local) -> u32
         requires few { length self.now.names.items < 2 ^ 32 }
         requires there { Contains (map local_view self.now.names.items) (local_in written.now) }
         ensures { slice_get (map local_view self.now.names.items) result ≡ Some (local_in written.now) }
     {
-        let hint = self.hint_of_number(written);
-        if let Some(id) = self.confirmed(hint, written) {
+        if let Some(id) = self.find_number(written) {
             return id;
         }
         self.find_name(written)

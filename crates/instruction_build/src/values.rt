@@ -1,5 +1,5 @@
 //! Values and operands.
-ghost use Rattle.std.specs.Prelude.{◌≡◌, ◌<◌, ◌^◌, map, length, All, IfOk, OnOk};
+ghost use Rattle.std.specs.Prelude.{◌≡◌, ◌<◌, ◌^◌, map, length, All, IfOk, IfSome, OnOk};
 ghost use Rattle.ir_constants.specs.View.{type_view, value_view, typed_value_view};
 ghost use Rattle.type_table.specs.Tree.{ptr};
 ghost use Rattle.type_table.specs.Types.{structs};
@@ -58,8 +58,24 @@ pub(crate) fn build_callee(
     build_value(builder, alloc, locals, &ty, written)
 }
 
-/// The operand that is written. It is refused for want of memory alone.
-pub(crate) fn build_operand(
+/// The operand that is written, where its type is plain and there, and where it is a local that its number finds. It calls
+/// nothing, so that no register is saved for it.
+#[inline(always)]
+fn plain_operand(builder: &Builder, locals: &Locals, written: &TypedValue) -> Option<Operand>
+    ensures { IfSome result (λ o. IsOperand (value_names locals.now) (block_names locals.now) builder.now.arena o (operand_in (typed_value_view written.now))) }
+{
+    let WrittenValue::Local(local) = &written.value else {
+        return None;
+    };
+    let ty = builder.find_plain(&written.ty)?;
+    let id = locals.values.find_number(local)?;
+    let value = Value::Local(ValueId::new(id));
+    Some(Operand { ty, value })
+}
+
+/// The operand that is written, whatever it is. It is refused for want of memory alone.
+#[inline(never)]
+fn build_any_operand(
     builder: &mut Builder,
     alloc: Global,
     locals: &Locals,
@@ -73,6 +89,25 @@ pub(crate) fn build_operand(
     let ty = builder.add_type(alloc, &written.ty)?;
     let value = build_value(builder, alloc, locals, &written.ty, &written.value)?;
     Ok(Operand { ty, value })
+}
+
+/// The operand that is written: nearly always a local of a plain type, which has a short way. It is refused for want of
+/// memory alone.
+pub(crate) fn build_operand(
+    builder: &mut Builder,
+    alloc: Global,
+    locals: &Locals,
+    written: &TypedValue,
+) -> Result<Operand, AllocError>
+    requires can { TakesOperand builder.old.arena locals.now (typed_value_view written.now) }
+    requires few_values { length locals.now.values.names.items < 2 ^ 32 }
+    ensures grows { OnOk result (Grows builder.old.arena builder.new.arena) }
+    ensures is { IfOk result (λ o. IsOperand (value_names locals.now) (block_names locals.now) builder.new.arena o (operand_in (typed_value_view written.now))) }
+{
+    if let Some(operand) = plain_operand(builder, locals, written) {
+        return Ok(operand);
+    }
+    build_any_operand(builder, alloc, locals, written)
 }
 
 /// The operands that are written, in order. It is refused for want of memory alone.
