@@ -1,6 +1,6 @@
 -- What is called next: by a name, by a number, or by none.
-use Rattle.std.specs.Prelude.{◌≡◌, refl, ℕ, ◌==◌, Bool, true, false, cond, if◌then◌else◌, List, [], ◌∷◌, ◌++◌, map, flat_map, bytes_eq, Option, Some, None, Ok, Err}
-use Rattle.std.proofs.Common.{ap, sym, subst, ◌∙◌}
+use Rattle.std.specs.Prelude.{◌≡◌, refl, ℕ, suc, ◌==◌, ◌+◌, Bool, true, false, cond, if◌then◌else◌, List, [], ◌∷◌, ◌++◌, map, flat_map, bytes_eq, Option, Some, None, Ok, Err}
+use Rattle.std.proofs.Common.{ap, sym, subst, ◌∙◌, arith}
 use Rattle.std.proofs.lemmas.List.{append-nil}
 use Rattle.std.proofs.lemmas.Slice.Eq.{bytes_eq-Decides}
 use Rattle.ir_base.specs.declared.place.Place.{Place}
@@ -67,6 +67,15 @@ pub number_called : (old new : CalledNames) (number : ℕ) (place : Place) (r : 
 number_called old new number place r j g = record {
   judged = λ b h. judged_next _ [] r (subst (λ n. IsJudged (ask (number == n) (faults.WrongNumber place n (decimal number)) ∷ []) (Ok tt)) h.next j) (g.judged b h);
   calls = g.calls;
+}
+
+-- the next number is called
+pub next_called : (old new : CalledNames) → new.next ≡ old.next + 1 → new.names ≡ old.names → Goes old new (λ b. []) (λ b. called_with b (false, None)) (Ok tt)
+next_called old new e s = record {
+  judged = λ b h. record { told = refl };
+  calls = λ b h.
+      let step : b.next + 1 ≡ suc b.next = omega arith in
+      record { next = e ∙ ap (λ n. n + 1) h.next ∙ step; names = λ n. ap (λ t. value_of t n) s ∙ h.names n };
 }
 
 -- no name, or the next number

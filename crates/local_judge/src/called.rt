@@ -1,7 +1,7 @@
 //! What a function has called so far: the next number, and the names with the places of the first of each.
 #![tactic(auto, using(crate::proofs::Steps::goes_memory))]
 
-ghost use Rattle.std.specs.Prelude.{◌≡◌, ◌==◌, [], ◌∷◌, Some, None, false};
+ghost use Rattle.std.specs.Prelude.{◌≡◌, ◌==◌, [], ◌∷◌, Some, None, Ok, true, false};
 ghost use Rattle.ir_terminals.specs.declared.values.Local.TheVariants as locals;
 ghost use Rattle.name_rules.specs.declared.fault.ResolveFault.TheVariants as faults;
 ghost use Rattle.name_rules.specs.Demand.{ask as asked, is_new};
@@ -132,6 +132,23 @@ impl<'a> CalledNames<'a> {
         }
     }
 
+    /// Calls a parameter, a block or a result by the next number, where no name is written, or that number, and tells whether it
+    /// did: one answer, with no room for a refusal.
+    #[inline(always)]
+    pub(crate) fn call_in_turn(&mut self, written: &Option<Local>) -> bool
+        ensures called { result ≡ true → Goes self.old self.new (λ before. call_demands before written.now) (λ before. called_with before (false, written.now)) (Ok tt) }
+        ensures same { result ≡ false → self.new ≡ self.old }
+    {
+        if !self.is_in_turn(written) {
+            return false;
+        }
+        if self.next == u64::MAX {
+            return false;
+        }
+        self.next += 1;
+        true
+    }
+
     /// Calls a parameter, a block or a result so, or by the next number where no name is written. Most come in turn: for
     /// these the next number alone is raised.
     #[inline(always)]
@@ -142,8 +159,8 @@ impl<'a> CalledNames<'a> {
     ) -> Result<(), ResolveFault>
         ensures { Goes self.old self.new (λ before. call_demands before written.now) (λ before. called_with before (false, written.now)) result }
     {
-        if self.is_in_turn(written) {
-            return self.call_next();
+        if self.call_in_turn(written) {
+            return Ok(());
         }
         self.call_so(alloc, written)
     }

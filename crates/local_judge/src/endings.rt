@@ -12,6 +12,7 @@ ghost use Rattle.local_judge.specs.Names.{AreGathered, locals_of};
 
 use crate::gathered::FunctionLocals;
 use crate::operands::{check_local, check_operand};
+use crate::passing::ending_passes;
 use ir_instructions::{Branch, Switch, WrittenCase, WrittenEnding};
 use name_rules::ResolveFault;
 use std::alloc::Global;
@@ -83,7 +84,8 @@ fn check_switch(
 }
 
 /// The end of a block.
-pub(crate) fn check_ending(
+#[inline(never)]
+fn check_whole_ending(
     alloc: Global,
     known: &Known,
     locals: &FunctionLocals,
@@ -100,4 +102,22 @@ pub(crate) fn check_ending(
         WrittenEnding::Branch(branch) => check_branch(alloc, known, locals, branch),
         WrittenEnding::Switch(switch) => check_switch(alloc, known, locals, switch),
     }
+}
+
+/// The end of a block. A look tells of most that all holds.
+#[inline(always)]
+pub(crate) fn check_ending(
+    alloc: Global,
+    known: &Known,
+    locals: &FunctionLocals,
+    ending: &WrittenEnding,
+) -> Result<(), ResolveFault>
+    requires known { IsKnown known.now }
+    requires locals { AreGathered locals.now }
+    ensures { IsJudged (ending_demands (known_of known.now) (locals_of locals.now) (ending_view ending.now)) result }
+{
+    if ending_passes(known, locals, ending) {
+        return Ok(());
+    }
+    check_whole_ending(alloc, known, locals, ending)
 }

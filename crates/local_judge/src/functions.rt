@@ -1,12 +1,13 @@
 //! Judges the parameters and the bodies of functions.
 #![tactic(auto, using(crate::proofs::Steps::goes_memory))]
 
-ghost use Rattle.std.specs.Prelude.{◌≡◌, ◌++◌, map, flat_map, false};
+ghost use Rattle.std.specs.Prelude.{◌≡◌, ◌++◌, map, flat_map, Ok, true, false};
 ghost use Rattle.ir_constants.specs.View.{type_view};
 ghost use Rattle.ir_instructions.specs.View.{instruction_view, block_view};
 ghost use Rattle.ir_syntax.specs.View.{parameter_view};
 ghost use Rattle.name_rules.specs.FunctionDemands.{call_demands, called_with, called_after, instruction_demands, instructions_demands, block_demands, blocks_demands, parameters_demands, definition_demands};
 ghost use Rattle.name_rules.specs.Locals.{Locals, announced_parameter, announced_result, announced_block};
+ghost use Rattle.name_rules.specs.TypeDemands as demands;
 ghost use Rattle.name_rules.specs.TypeDemands.{type_demands};
 ghost use Rattle.type_judge.specs.Gathered.{IsKnown, known_of};
 ghost use Rattle.type_judge.specs.Judging.{IsJudged};
@@ -17,6 +18,7 @@ use crate::called::CalledNames;
 use crate::endings::check_ending;
 use crate::gathered::FunctionLocals;
 use crate::operations::check_operation;
+use crate::passing::{operation_passes, type_passes};
 use crate::results::has_result;
 use crate::tables::LocalTables;
 use ir_instructions::{Instruction, WrittenBlock};
@@ -39,8 +41,40 @@ fn check_result<'a>(
     called.call(alloc, &instruction.result)
 }
 
+/// Calls the result of an instruction, where it has one, and tells whether it did, by the next number.
+#[inline(always)]
+fn result_passes(called: &mut CalledNames, instruction: &Instruction) -> bool
+    ensures called { result ≡ true → Goes called.old called.new (λ before. call_demands before instruction.now.result) (λ before. called_after before (announced_result (instruction_view instruction.now))) (Ok tt) }
+    ensures same { result ≡ false → called.new ≡ called.old }
+{
+    if !has_result(instruction) {
+        return true;
+    }
+    called.call_in_turn(&instruction.result)
+}
+
+/// Whether a look tells that all holds that an instruction asks for; else nothing is called.
+#[inline(always)]
+fn instruction_passes(
+    known: &Known,
+    locals: &FunctionLocals,
+    called: &mut CalledNames,
+    instruction: &Instruction,
+) -> bool
+    requires known { IsKnown known.now }
+    requires locals { AreGathered locals.now }
+    ensures called { result ≡ true → Goes called.old called.new (λ before. instruction_demands (known_of known.now) (locals_of locals.now) before (instruction_view instruction.now)) (λ before. called_after before (announced_result (instruction_view instruction.now))) (Ok tt) }
+    ensures same { result ≡ false → called.new ≡ called.old }
+{
+    if !operation_passes(known, locals, &instruction.operation) {
+        return false;
+    }
+    result_passes(called, instruction)
+}
+
 /// An instruction: what its result is called, and what it does.
-fn check_instruction<'a>(
+#[inline(never)]
+fn check_whole_instruction<'a>(
     alloc: Global,
     known: &Known,
     locals: &FunctionLocals,
@@ -53,6 +87,25 @@ fn check_instruction<'a>(
 {
     check_result(alloc, called, instruction)?;
     check_operation(alloc, known, locals, &instruction.operation)
+}
+
+/// An instruction: what its result is called, and what it does. A look tells of most that all holds.
+#[inline(always)]
+fn check_instruction<'a>(
+    alloc: Global,
+    known: &Known,
+    locals: &FunctionLocals,
+    called: &mut CalledNames<'a>,
+    instruction: &'a Instruction,
+) -> Result<(), ResolveFault>
+    requires known { IsKnown known.now }
+    requires locals { AreGathered locals.now }
+    ensures { Goes called.old called.new (λ before. instruction_demands (known_of known.now) (locals_of locals.now) before (instruction_view instruction.now)) (λ before. called_after before (announced_result (instruction_view instruction.now))) result }
+{
+    if instruction_passes(known, locals, called, instruction) {
+        return Ok(());
+    }
+    check_whole_instruction(alloc, known, locals, called, instruction)
 }
 
 /// Instructions, each behind what was called before it.
@@ -108,8 +161,21 @@ fn check_blocks<'a>(
     Ok(())
 }
 
+/// Whether a look tells that all holds that a parameter asks for; else nothing is called.
+#[inline(always)]
+fn parameter_passes(called: &mut CalledNames, parameter: &WrittenParameter) -> bool
+    ensures called { (known : demands.Known) → result ≡ true → Goes called.old called.new (λ before. type_demands known (type_view parameter.now.ty) ++ call_demands before parameter.now.name) (λ before. called_with before (false, parameter.now.name)) (Ok tt) }
+    ensures same { result ≡ false → called.new ≡ called.old }
+{
+    if !type_passes(&parameter.ty) {
+        return false;
+    }
+    called.call_in_turn(&parameter.name)
+}
+
 /// A parameter: its type, and what it is called.
-fn check_parameter<'a>(
+#[inline(never)]
+fn check_whole_parameter<'a>(
     alloc: Global,
     known: &Known,
     called: &mut CalledNames<'a>,
@@ -120,6 +186,23 @@ fn check_parameter<'a>(
 {
     check_type(alloc, known, &parameter.ty)?;
     called.call(alloc, &parameter.name)
+}
+
+/// A parameter: its type, and what it is called. A look tells of most that all holds.
+#[inline(always)]
+fn check_parameter<'a>(
+    alloc: Global,
+    known: &Known,
+    called: &mut CalledNames<'a>,
+    parameter: &'a WrittenParameter,
+) -> Result<(), ResolveFault>
+    requires known { IsKnown known.now }
+    ensures { Goes called.old called.new (λ before. type_demands (known_of known.now) (type_view parameter.now.ty) ++ call_demands before parameter.now.name) (λ before. called_with before (false, parameter.now.name)) result }
+{
+    if parameter_passes(called, parameter) {
+        return Ok(());
+    }
+    check_whole_parameter(alloc, known, called, parameter)
 }
 
 /// Parameters, each behind what was called before it.

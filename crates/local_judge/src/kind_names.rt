@@ -61,6 +61,7 @@ impl<'a> KindNames<'a> {
     }
 
     /// Takes all out. The memory is kept.
+    #[inline(always)]
     pub(crate) fn clear(&mut self)
         ensures { AreNone self.new }
     {

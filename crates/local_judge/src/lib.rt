@@ -21,6 +21,7 @@ mod literals;
 mod local_names;
 mod operands;
 mod operations;
+mod passing;
 mod results;
 mod tables;
 

@@ -1,14 +1,16 @@
 //! Integers that a look at 64 bits tells to fit, as nearly all do. What is not told so, `type_judge` judges.
 #![tactic(auto)]
 
-ghost use Rattle.std.specs.Prelude.{◌≡◌, ◌≤◌, ◌^◌, nat_lt, true};
+ghost use Rattle.std.specs.Prelude.{◌≡◌, ◌≤◌, ◌^◌, nat_lt, true, [], ◌∷◌};
 ghost use Rattle.ir_constants.specs.View.{type_view, constant_view};
+ghost use Rattle.name_rules.specs.Demand.{is_index};
 ghost use Rattle.name_rules.specs.TypeDemands.{Known, constant_demands};
 ghost use Rattle.name_rules.specs.Written.{type_in, bits_at};
 ghost use Rattle.local_judge.specs.Literals.{short_of, fits_in, Hold};
 
 use ir_constants::{Constant, Type};
-use ir_terminals::Number;
+use ir_terminals::{Integer, Number};
+use module_arena::INDEX_LIMIT;
 
 /// The magnitude, where the integer is not negative and below 2^64.
 fn short_of(negative: bool, magnitude: &Number) -> Option<u64>
@@ -55,5 +57,16 @@ pub(crate) fn is_literal(constant: &Constant, ty: &Type) -> bool
     match constant {
         Constant::Integer(negative, _, magnitude) => is_short_at(ty, *negative, magnitude),
         _ => false,
+    }
+}
+
+/// Whether a look tells that the integer is an index or an alignment.
+#[inline(always)]
+pub(crate) fn is_short_index(written: &Integer) -> bool
+    ensures { result ≡ true → Hold (is_index written.now ∷ []) }
+{
+    match short_of(written.negative, &written.magnitude) {
+        Some(number) => number < INDEX_LIMIT,
+        None => false,
     }
 }

@@ -1,21 +1,17 @@
-use Rattle.std.proofs.Common.{false}
-use Rattle.std.proofs.lemmas.Result.{err_from_is_err_and}
+use Rattle.std.proofs.Common.{false, ◌++◌, subst}
 use Rattle.ir_constants.specs.View.{type_view}
 use Rattle.name_rules.specs.FunctionDemands.{call_demands, called_with}
 use Rattle.name_rules.specs.TypeDemands.{type_demands}
 use Rattle.type_judge.specs.Gathered.{known_of}
-use Rattle.local_judge.proofs.Steps.{goes_stop, goes_behind}
+use Rattle.local_judge.specs.declared.called.CalledNames.{CalledNames}
+use Rattle.local_judge.specs.Calling.{Goes}
 use Rattle.local_judge.proofs.functions.check_parameter.Goals as goal
 
-pub returns-in_err-check_type : goal.returns-in_err-check_type
-returns-in_err-check_type c =
-    let p = err_from_is_err_and c.from_residual.result c.from_residual.ensures.1 in
-    let parameter = c.args.parameter.now in
-    rw (p.1, p.2)
-    (goes_stop _ _ (type_demands (known_of c.args.known.now) (type_view parameter.ty)) (λ b. call_demands b parameter.name) _ _ c.in_err-check_type.ensures)
+pub returns-then-parameter_passes : goal.returns-then-parameter_passes
+returns-then-parameter_passes c = c.parameter_passes.ensures.called (known_of c.args.known.now) c.if-parameter_passes.true
 
 pub returns : goal.returns
 returns c =
     let parameter = c.args.parameter.now in
-    goes_behind _ _ (type_demands (known_of c.args.known.now) (type_view parameter.ty)) (λ b. call_demands b parameter.name) (λ b. called_with b (false, parameter.name)) _
-    c.in_ok-check_type.ensures c.call.ensures
+    subst (λ (old : CalledNames). Goes old c.check_whole_parameter.new.called (λ b. type_demands (known_of c.args.known.now) (type_view parameter.ty) ++ call_demands b parameter.name) (λ b. called_with b (false, parameter.name)) c.check_whole_parameter.result)
+    (c.parameter_passes.ensures.same c.if-parameter_passes.false) c.check_whole_parameter.ensures
