@@ -36,6 +36,10 @@ KnowsInstruction a f i = KnowsInst (length a.table.types) (length a.constants) (
 abbrev pub KnowsEnding : Lists → the_function.Function → the_ending.Ending → Type 0
 KnowsEnding a f e = All (HasOperand (length a.table.types) (length a.constants) (length (value_names f))) (end_operands_of e)
 
+-- there is a number for each constant, one for two exactly where they are the same
+abbrev pub AreNumbers : Lists → List ℕ → Type 0
+AreNumbers a classes = (length classes ≡ length a.constants) × AreClasses (constants_of a) classes
+
 -- what is known of a function before its paths are: which type each of its values has
 pub record IsTold (a : Lists) (f : the_function.Function) (types : List LocalType) : Type 0 where
   pub known : KnowsFunction (length a.table.types) (length a.constants) f

@@ -1,13 +1,13 @@
 //! All functions.
-ghost use Rattle.std.specs.Prelude.{◌≡◌, ◌<◌, ◌≤◌, ◌+◌, length, slice_get, Some, flat_map};
+ghost use Rattle.std.specs.Prelude.{◌≡◌, ◌<◌, ◌≤◌, ◌+◌, length, slice_get, IfSome, Some, flat_map};
 ghost use Rattle.module_arena.specs.declared.entry.Function as the_function;
 ghost use Rattle.module_arena.specs.Changes.{function_in};
 ghost use Rattle.module_arena.specs.Valid.{function_demands};
-ghost use Rattle.module_arena.specs.View.{constants_of, module_of};
+ghost use Rattle.module_arena.specs.View.{module_of};
 ghost use Rattle.module_arena.specs.WellFormed.{IsWellFormed};
-ghost use Rattle.use_verify.specs.Classes.{AreClasses};
 ghost use Rattle.type_verify.specs.Judged.{Judged};
 ghost use Rattle.path_verify.specs.Bodies.{turns_of};
+ghost use Rattle.path_verify.specs.Ready.{AreNumbers};
 ghost use Rattle.path_verify.specs.Verified.{all_turns};
 
 use crate::bodies::judge_body;
@@ -20,12 +20,12 @@ use std::alloc::Global;
 use std::sync::ledger::Ledger;
 use type_verify::VerifyFault;
 
-/// What the rules say of a function and all in it. `classes` has a number for each constant of the module, one for two exactly where
-/// they are the same; what `value_types`, `operands` and `spare` have does not matter.
+/// What the rules say of a function and all in it. `kept` has a number for each constant of the module, one for two exactly where they
+/// are the same, or nothing yet; what `value_types`, `operands` and `spare` have does not matter.
 fn judge_one<L: Ledger>(
     alloc: Global,
     judge: &Judge<'_>,
-    classes: &[u64],
+    kept: &mut Option<Vec<u64>>,
     value_types: &mut Vec<LocalType>,
     operands: &mut Vec<Operand>,
     spare: &mut Spare,
@@ -34,34 +34,22 @@ fn judge_one<L: Ledger>(
 ) -> Result<(), VerifyFault>
     requires known { id < length judge.now.functions }
     requires well_formed { IsWellFormed (module_of judge.now) }
-    requires many { length classes.now ≡ length judge.now.constants }
-    requires classes { AreClasses (constants_of judge.now) classes.now }
+    requires kept { IfSome kept.old (λ classes. AreNumbers judge.now classes.items) }
+    ensures kept { IfSome kept.new (λ classes. AreNumbers judge.now classes.items) }
     ensures judged { (f : the_function.Function) → slice_get judge.now.functions id ≡ Some f → Judged (function_demands (module_of judge.now) (function_in judge.now f)) result }
     ensures turns { (f : the_function.Function) → slice_get judge.now.functions id ≡ Some f → turns.new ≤ turns.old + turns_of (function_in judge.now f) }
 {
     judge_function(alloc, judge, id)?;
-    judge_body(
-        alloc,
-        judge,
-        classes,
-        value_types,
-        operands,
-        spare,
-        id,
-        turns,
-    )
+    judge_body(alloc, judge, kept, value_types, operands, spare, id, turns)
 }
 
-/// What the rules say of all functions, in their order; `classes` are those of the constants.
+/// What the rules say of all functions, in their order.
 pub(crate) fn judge_functions<L: Ledger>(
     alloc: Global,
     judge: &Judge<'_>,
-    classes: &[u64],
     turns: &mut Steps<L>,
 ) -> Result<(), VerifyFault>
     requires well_formed { IsWellFormed (module_of judge.now) }
-    requires many { length classes.now ≡ length judge.now.constants }
-    requires classes { AreClasses (constants_of judge.now) classes.now }
     ensures judged { Judged (flat_map (function_demands (module_of judge.now)) (module_of judge.now).functions) result }
     ensures turns { turns.new ≤ turns.old + all_turns (module_of judge.now) }
 {
@@ -69,12 +57,14 @@ pub(crate) fn judge_functions<L: Ledger>(
     let mut value_types = Vec::new(alloc);
     let mut operands = Vec::new(alloc);
     let mut spare = Spare::new(alloc);
+    // The numbers of the constants, from the first function on that is judged by its paths: without one, no constants are compared.
+    let mut kept: Option<Vec<u64>> = None;
     let count = judge.arena().function_count();
     'functions: for number in 0..count {
         judge_one(
             alloc,
             judge,
-            classes,
+            &mut kept,
             &mut value_types,
             &mut operands,
             &mut spare,

@@ -17,7 +17,6 @@ use std::alloc::Global;
 use std::marker::Brand;
 use std::sync::ledger::{Blank, Ledger};
 use type_verify::VerifyFault;
-use use_verify::constant_classes;
 
 /// What the rules say of a module, in their order.
 fn judge_rules<L: Ledger>(
@@ -33,8 +32,7 @@ fn judge_rules<L: Ledger>(
     let judge = Judge::new(alloc, arena)?;
     judge_variables(alloc, &judge)?;
     judge_aliases(alloc, &judge)?;
-    let classes = constant_classes(alloc, &judge)?;
-    judge_functions(alloc, &judge, &classes, turns)
+    judge_functions(alloc, &judge, turns)
 }
 
 /// The limit on sizes, and then the rules.

@@ -12,7 +12,7 @@ use Rattle.path_verify.proofs.Counted.{some_at, so_many_functions}
 use Rattle.path_verify.proofs.functions.judge_functions.Goals as goal
 
 pub functions-init : goal.functions-init
-functions-init g c = ((λ r j. j), omega arith)
+functions-init g c = ((λ r j. j), omega arith, tt)
 
 pub functions-preserved : goal.functions-preserved
 functions-preserved g c =
@@ -26,7 +26,7 @@ functions-preserved g c =
     let f = function_in a here.0 in
     let more = sum_by_more turns_of m.functions c.functions.number f (slice_get_within m.functions c.functions.number f at) in
     let same = get_or_from_slice_get m.functions c.functions.number f f at in
-    (leads_next (function_demands m) m.functions c.functions.number f at (judged here.0 here.1) c.functions.invariant.0, omega (arith, c.functions.invariant.1, turns here.0 here.1, more, ap turns_of same))
+    (leads_next (function_demands m) m.functions c.functions.number f at (judged here.0 here.1) c.functions.invariant.0, omega (arith, c.functions.invariant.1, turns here.0 here.1, more, ap turns_of same), c.in_ok-judge_one.ensures.kept)
 
 pub returns-in_err-judge_one-clause-judged : goal.returns-in_err-judge_one-clause-judged
 returns-in_err-judge_one-clause-judged g c =

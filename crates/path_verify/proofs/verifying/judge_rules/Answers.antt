@@ -1,16 +1,12 @@
-use Rattle.std.proofs.Common.{ℕ, List, Err, ◌++◌, sym, subst}
+use Rattle.std.proofs.Common.{Err, ◌++◌, subst}
 use Rattle.std.specs.List.{flat_map}
 use Rattle.std.proofs.lemmas.Result.{err_from_is_err_and}
 use Rattle.module_arena.specs.Lists.{Lists}
 use Rattle.module_arena.specs.Valid.{module_demands, variable_demands, alias_demands, function_demands}
-use Rattle.module_arena.specs.View.{constants_of, module_of}
-use Rattle.use_verify.specs.Classes.{AreClasses}
+use Rattle.module_arena.specs.View.{module_of}
 use Rattle.type_verify.specs.Judged.{Judged}
 use Rattle.type_verify.proofs.Judging.{leads_past, fails_first}
 use Rattle.path_verify.proofs.verifying.judge_rules.Goals as goal
-
-pub judge_functions-requires-clause-classes : goal.judge_functions-requires-clause-classes
-judge_functions-requires-clause-classes g c = subst (λ (numbers : List ℕ). AreClasses (constants_of c.in_ok-judge.judge) numbers) (sym c.deref.ensures.value) c.in_ok-classes.ensures.classes
 
 pub returns-in_err-judge_variables-clause-judged : goal.returns-in_err-judge_variables-clause-judged
 returns-in_err-judge_variables-clause-judged g c =
