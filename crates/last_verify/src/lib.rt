@@ -28,4 +28,5 @@ mod written;
 pub use last::{judge_ending_last, judge_last};
 pub use list::local_types;
 pub use local_type::LocalType;
-pub use passing::{ending_types_pass, types_pass};
+pub use passing::{ending_types_pass, operation_passes, types_pass};
+pub use written::has_type;

@@ -1,5 +1,6 @@
 //! Whether an instruction, or the end of a block, passes the rules on types: one answer to them, with no room for a fault.
 ghost use Rattle.std.specs.Prelude.{◌≡◌, ◌<◌, ℕ, true, List, All, length};
+ghost use Rattle.std.specs.List.{list_all};
 ghost use Rattle.type_table.specs.Types.{trees};
 ghost use Rattle.module_arena.specs.Changes.{function_in};
 ghost use Rattle.module_arena.specs.Known.{HasOperand};
@@ -9,17 +10,31 @@ ghost use Rattle.module_arena.specs.Valid.{AllHold};
 ghost use Rattle.module_arena.specs.View.{constants_of, ending_view, inst_view, module_of};
 ghost use Rattle.path_rows.specs.Operands as gathered;
 ghost use Rattle.instruction_verify.specs.Parts.{ending_first_demands, ending_last_demands, first_demands, last_demands};
-ghost use Rattle.last_verify.specs.ValuesById.{AreLocalTypes, AreTypes};
+ghost use Rattle.last_verify.specs.ValuesById.{AreLocalTypes, AreTypes, has_own_type};
 ghost use Rattle.last_verify.specs.CallsById.{HasUses};
 
 use crate::callees::callee_fits;
 use crate::calls::call_suits;
 use crate::local_type::LocalType;
-use crate::written::have_types_written;
+use crate::written::{all_have, have_types_written};
 use constant_verify::Judge;
 use instruction_verify::{ending_passes, instruction_passes};
 use module_arena::{Ending, Function, Inst, Operand};
 use path_rows::callee_of;
+
+/// Whether the rules 5 to 7 and 12 to 18 hold of an instruction, all but that on the types written before its operands. The list of types
+/// has the type of each parameter and result of its function, by its number. It tells no fault, as [`types_pass`].
+pub fn operation_passes(judge: &Judge<'_>, value_types: &[LocalType], instruction: &Inst) -> bool
+    requires types { AreTypes judge.now.table value_types.now }
+    requires known { HasUses judge.now (length value_types.now) instruction.now }
+    ensures first { (values blocks : List LocalName) (function : Bytes) (number : ℕ) → result ≡ true → AllHold (first_demands (module_of judge.now) function number (inst_view (trees judge.now.table) (constants_of judge.now) values blocks instruction.now)) }
+    ensures last { (f : modules.Function) (values blocks : List LocalName) (number : ℕ) → AreLocalTypes judge.now f values value_types.now → list_all (has_own_type judge.now.table value_types.now) (gathered.operands_of instruction.now) ≡ true → result ≡ true → AllHold (last_demands (module_of judge.now) f number (inst_view (trees judge.now.table) (constants_of judge.now) values blocks instruction.now)) }
+{
+    let passes = instruction_passes(judge, instruction);
+    let suits = call_suits(judge, value_types, instruction);
+    let direct = callee_fits(judge, callee_of(instruction));
+    passes & (suits & direct)
+}
 
 /// Whether the rules 5 to 7 and 11 to 18 hold of an instruction. The list of types has the type of each parameter and result of its
 /// function, by its number; the operands are those of the instruction, each with the type that its place writes. It tells no fault:
@@ -36,11 +51,8 @@ pub fn types_pass(
     ensures first { (values blocks : List LocalName) (function : Bytes) (number : ℕ) → result ≡ true → AllHold (first_demands (module_of judge.now) function number (inst_view (trees judge.now.table) (constants_of judge.now) values blocks instruction.now)) }
     ensures last { (f : modules.Function) (values blocks : List LocalName) (number : ℕ) → AreLocalTypes judge.now f values value_types.now → result ≡ true → AllHold (last_demands (module_of judge.now) f number (inst_view (trees judge.now.table) (constants_of judge.now) values blocks instruction.now)) }
 {
-    let passes = instruction_passes(judge, instruction);
-    let typed = have_types_written(judge, value_types, operands);
-    let suits = call_suits(judge, value_types, instruction);
-    let direct = callee_fits(judge, callee_of(instruction));
-    (passes & typed) & (suits & direct)
+    let typed = all_have(judge, value_types, operands);
+    operation_passes(judge, value_types, instruction) & typed
 }
 
 /// Whether the rules 5, 6, 11, 17 and 18 hold of the end of a block. The list of types has the type of each parameter and result of the

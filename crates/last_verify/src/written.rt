@@ -42,9 +42,10 @@ fn has_local_type(judge: &Judge<'_>, value_types: &[LocalType], ty: TypeId, id: 
     }
 }
 
-/// Whether the value, where it is a local one, has the type.
+/// Whether the value, where it is a local one, has the type. The list has the type of each parameter and result of the function, by its
+/// number.
 #[inline(always)]
-fn has_type(judge: &Judge<'_>, value_types: &[LocalType], ty: TypeId, value: Value) -> bool
+pub fn has_type(judge: &Judge<'_>, value_types: &[LocalType], ty: TypeId, value: Value) -> bool
     requires types { AreTypes judge.now.table value_types.now }
     requires ty { ty < length judge.now.table.types }
     requires value { HasValue (length judge.now.constants) (length value_types.now) value }
@@ -58,7 +59,7 @@ fn has_type(judge: &Judge<'_>, value_types: &[LocalType], ty: TypeId, value: Val
 
 /// Whether all of these have the types that are written before them, each by its ids.
 #[inline(always)]
-fn all_have(judge: &Judge<'_>, value_types: &[LocalType], operands: &[Operand]) -> bool
+pub(crate) fn all_have(judge: &Judge<'_>, value_types: &[LocalType], operands: &[Operand]) -> bool
     requires types { AreTypes judge.now.table value_types.now }
     requires known { All (HasOperand (length judge.now.table.types) (length judge.now.constants) (length value_types.now)) operands.now }
     ensures { result ≡ list_all (has_own_type judge.now.table value_types.now) operands.now }

@@ -1,3 +1,4 @@
+pub mod Both
 pub mod Counted
 pub mod InModule
 pub mod Joined

@@ -97,6 +97,10 @@ module _ (a : Lists) (values : ℕ) where
       blocks_known = k.blocks_known;
     }
 
+    -- its operands as they are listed, by the number of types that are listed
+    pub listed_known : (types : ℕ) → types ≡ values → All (HasOperand (length a.table.types) (length a.constants) types) (operands_of i)
+    listed_known types many = subst (λ (n : ℕ). All (HasOperand (length a.table.types) (length a.constants) n) (operands_of i)) (sym many) (operands_known blocks i k)
+
     -- for the rules behind it, by the number of types that are listed
     pub calls_known : (types : ℕ) → types ≡ values → calls.HasUses a types i
     calls_known types many =

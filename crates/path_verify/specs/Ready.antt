@@ -1,24 +1,26 @@
 -- Says how the code reads: the blocks of a function in the module, and what is known of a function before its blocks are judged.
-use Rattle.std.specs.Prelude.{◌≡◌, ℕ, List, All, length, map}
+use Rattle.std.specs.Prelude.{◌≡◌, ℕ, Bool, ◌&&◌, List, All, length, map}
 use Rattle.module_arena.specs.Same.{IsApart}
 use Rattle.module_arena.specs.declared.entry.Block as the_block
 use Rattle.module_arena.specs.declared.entry.Function as the_function
 use Rattle.module_arena.specs.declared.instruction.Ending as the_ending
 use Rattle.module_arena.specs.declared.instruction.Inst as the_inst
+use Rattle.module_arena.specs.declared.instruction.Operand.{Operand}
 use Rattle.module_arena.specs.Changes.{function_in}
 use Rattle.module_arena.specs.Known.{HasOperand, KnowsFunction, KnowsInst}
 use Rattle.module_arena.specs.Lists.{Lists, function_blocks, value_names}
 use Rattle.module_arena.specs.Mentions.{end_operands_of}
 use Rattle.module_arena.specs.Module as modules
 use Rattle.module_arena.specs.View.{block_view, constants_of}
-use Rattle.type_table.specs.Types.{trees}
+use Rattle.type_table.specs.Types.{Types, trees}
 use Rattle.path_rows.specs.Numbers.{graph_of, names_of}
 use Rattle.path_rows.specs.Reflects.{Reflects}
 use Rattle.path_rows.specs.Table.{PassedRows}
 use Rattle.last_verify.specs.declared.local_type.LocalType.{LocalType}
-use Rattle.last_verify.specs.ValuesById.{AreLocalTypes, AreTypes}
+use Rattle.last_verify.specs.ValuesById.{AreLocalTypes, AreTypes, has_own_type}
 use Rattle.use_verify.specs.Uses.{AreRows, blocks_named, flow_in}
 use Rattle.use_verify.specs.Classes.{AreClasses}
+use Rattle.use_verify.specs.Given.{is_given}
 
 -- a block of the function, in the module
 abbrev pub block_in : Lists → the_function.Function → the_block.Block → modules.Block
@@ -59,3 +61,7 @@ pub record IsReady (a : Lists) (f : the_function.Function) (classes : List ℕ) 
   pub types_told : AreLocalTypes a (function_in a f) (names_of f) types
   pub many_classes : length classes ≡ length a.constants
   pub classes_told : AreClasses (constants_of a) classes
+
+-- an operand is a constant or one of the first so many values, and has the type that is written before it
+abbrev pub operand_passes : Types → List LocalType → ℕ → Operand → Bool
+operand_passes t types given o = is_given given o.value && has_own_type t types o

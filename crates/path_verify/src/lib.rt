@@ -20,6 +20,7 @@ mod functions;
 mod instructions;
 mod layout_text;
 mod module_line;
+mod own_operands;
 mod single;
 mod sizes;
 mod verifying;

@@ -28,7 +28,7 @@ mod uses;
 
 pub use classes::constant_classes;
 pub use first_block::judge_entry_block;
-pub use given::{ending_uses_given, uses_given};
+pub use given::{callee_given, ending_uses_given, is_value_given};
 pub use phis::{PhiJudge, is_phi};
 pub use site::Site;
 pub use uses::{ending_uses_pass, judge_ending_uses, judge_uses, uses_pass};

@@ -1,9 +1,8 @@
-use Rattle.std.proofs.Common.{◌≡◌, ◌++◌, List, Ok, length, sym, ap, ◌∙◌, subst}
+use Rattle.std.proofs.Common.{List, Ok, length, sym, ◌∙◌, subst}
 use Rattle.std.proofs.lemmas.Bool.{and_parts}
 use Rattle.module_arena.specs.Changes.{function_in}
 use Rattle.module_arena.specs.Lists.{function_blocks, value_names}
 use Rattle.module_arena.specs.View.{module_of}
-use Rattle.module_arena.specs.declared.instruction.Operand.{Operand}
 use Rattle.path_rows.specs.Numbers.{names_of}
 use Rattle.use_verify.specs.Uses.{block_named, blocks_named, instruction_in}
 use Rattle.last_verify.specs.declared.local_type.LocalType.{LocalType}
