@@ -49,6 +49,10 @@ front_in_line p next s n fits e is =
 pub one_in_line : (s : List ℕ) (n : ℕ) → n < length s → in_line (byte_class (get_or s n 0)) ≡ true → each in_line (take 1 (drop n s)) ≡ true
 one_in_line s n h e = rw (drop-cons s n 0, e) refl
 
+pub first_in_line : (s : List ℕ) → 0 < length s → in_line (byte_class (get_or s 0 0)) ≡ true → each in_line (take 1 s) ≡ true
+first_in_line [] h e = absurd (omega arith)
+first_in_line (b ∷ bs) h e = one_in_line (b ∷ bs) 0 h e
+
 -- no byte of the form is a line feed
 abbrev InLine : Form → Type 0
 InLine Done = Unit {0}

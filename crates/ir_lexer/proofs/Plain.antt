@@ -1,10 +1,10 @@
 -- The tokens that few bytes tell.
 use Rattle.std.proofs.Common.{◌≡◌, ℕ, zero, suc, ◌+◌, ◌-◌, ◌<◌, List, [], ◌∷◌, length, take, drop, get_or, true, false, inl, inr, refl, sym, ◌∙◌, arith, Some, None}
 use Rattle.ir_base.proofs.Pieces.{rest_whole}
-use Rattle.ir_lexer.specs.Class.{byte_class, in_name, in_word, is_digit, is_percent, is_quote, starts_name, starts_with, starts_word}
+use Rattle.ir_lexer.specs.Class.{byte_class, in_name, in_word, is_at, is_digit, is_percent, is_quote, starts_name, starts_with, starts_word}
 use Rattle.ir_lexer.specs.Form.{run, longest, Done}
 use Rattle.ir_lexer.specs.Front.{next_token, token_from}
-use Rattle.ir_lexer.specs.Label.{KnownRun}
+use Rattle.ir_lexer.specs.Label.{KnownRun, ends_name}
 use Rattle.ir_lexer.specs.Names.{is_quoted}
 use Rattle.ir_lexer.specs.Quoted.{is_text}
 use Rattle.ir_lexer.specs.Table.{Label, inside, tail_of}
@@ -133,3 +133,42 @@ named_next (a ∷ b ∷ bs) n h e d =
 -- a mark is the token
 pub mark_next : (s : List ℕ) (x : Class) → 0 < length s → x ≡ byte_class (get_or s 0 0) → x ≡ c.Mark → Some (k.Punctuation, 1) ≡ next_token s
 mark_next s x some is e = next_by s c.Mark (Some (k.Punctuation, 1)) some (sym e ∙ is) refl
+
+-- a name behind `@`
+global_of : (x : Class) (b : ℕ) (bs : List ℕ) → is_at x ≡ true → starts_name (byte_class b) ≡ true → Some (k.GlobalName, suc (1 + run in_name bs)) ≡ token_from x (b ∷ bs)
+global_of c.At b bs h d = rw d refl
+global_of _ b bs h d = absurd cc
+
+at_no_quote : (x : Class) → is_at x ≡ true → is_quote x ≡ false
+at_no_quote c.At h = refl
+at_no_quote _ h = absurd cc
+
+pub global_next : (s : List ℕ) (n : ℕ) → starts_with is_at s ≡ true → n ≡ run in_name (take (length s - 1) (drop 1 s)) → starts_with starts_name (drop 1 s) ≡ true → (Some (k.GlobalName, 1 + n) ≡ next_token s) × (is_quoted (take (1 + n) s) ≡ false)
+unfolding next_token
+global_next [] n h e d = absurd cc
+global_next (a ∷ []) n h e d = absurd cc
+global_next (a ∷ b ∷ bs) n h e d =
+    let whole : n ≡ run in_name (b ∷ bs) = rw rest_whole at e in
+    let no = name_no_quote (byte_class b) d in
+    let size : 1 + n ≡ suc (1 + run in_name bs) = omega (arith, whole, run_first in_name b bs no.1) in
+    (rw size (global_of (byte_class a) b bs h d), not_quoted a (b ∷ bs) (1 + n) (at_no_quote (byte_class a) h) no.0)
+
+-- what ends a word is no quote, nor is what goes on with it
+end_no_quote : (x : Class) → ends_name x ≡ true → is_quote x ≡ false
+end_no_quote c.Quote h = absurd cc
+end_no_quote _ h = refl
+
+word_no_quote : (x : Class) → in_word x ≡ true → is_quote x ≡ false
+word_no_quote c.Quote h = absurd cc
+word_no_quote _ h = refl
+
+pub ended_no_quote : (s : List ℕ) (n : ℕ) → starts_with starts_word s ≡ true → n ≡ run in_word s → starts_with ends_name (drop n s) ≡ true → starts_with is_quote (drop 1 s) ≡ false
+ended_no_quote [] n h e ends = absurd cc
+ended_no_quote (b ∷ []) n h e ends = refl
+ended_no_quote (b ∷ x ∷ bs) n h e ends =
+    let first = run_first in_word b (x ∷ bs) (word_goes_on (byte_class b) h) in
+    elim (bool_cases (in_word (byte_class x))) [
+      | inl d ↦ word_no_quote (byte_class x) d
+      | inr d ↦ (let one : n ≡ 1 = omega (arith, e, first, run_stops in_word x bs d) in
+          end_no_quote (byte_class x) (rw one at ends))
+    ]

@@ -84,6 +84,11 @@ not_in_gap LineFeed s l b = absurd (l refl)
 not_in_gap Blank s l b = absurd (b refl)
 not_in_gap _ s l b = (refl, refl)
 
+-- a space at the front
+pub gap_space : (s : List ℕ) → 0 < length s → byte_class (get_or s 0 0) ≡ Blank → gap_length false s ≡ 1 + gap_length false (drop 1 s)
+gap_space [] h e = absurd (omega arith)
+gap_space (b ∷ bs) h e = let k = gap_blank (b ∷ bs) 0 h (rw e refl) in omega (arith, k)
+
 line_ends : (x : Class) → in_line x ≡ false → (is_line_feed x ≡ true) × (is_blank x ≡ true)
 line_ends LineFeed h = (refl, refl)
 line_ends _ h = absurd cc

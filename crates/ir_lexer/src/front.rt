@@ -1,10 +1,11 @@
 //! The token at the front of a text, by its first byte.
 ghost use Rattle.std.specs.Prelude.{◌≡◌, ◌+◌, ◌≤◌, length, take, true, false, Some, IfSome};
-ghost use Rattle.ir_lexer.specs.Class.{in_word, is_digit, is_percent, starts_with, starts_word};
+ghost use Rattle.ir_lexer.specs.Class.{in_word, is_at, is_digit, is_percent, starts_with, starts_word};
 ghost use Rattle.ir_lexer.specs.Form.{longest, run};
 ghost use Rattle.ir_lexer.specs.Front.{next_token, token_from};
 ghost use Rattle.ir_lexer.specs.Label.{KnownRun};
 ghost use Rattle.ir_lexer.specs.Lines.{has_string_in};
+ghost use Rattle.ir_lexer.specs.Names.{is_quoted};
 ghost use Rattle.ir_lexer.specs.Table.{IsToken, Label, tail_of};
 ghost use Rattle.ir_lexer.specs.declared.class.Class.TheVariants.{Quote, LetterC, Letter, Digit, Minus, Dollar, Dot, At, Percent, Bang, Hash};
 
@@ -203,7 +204,7 @@ fn plain_word(text: &[u8]) -> Option<usize>
 {
     let behind = &text[1..];
     let word = 1 + run_of(ClassSet::InWord, behind);
-    if begins(ClassSet::Quotes, behind) || !is_ended_word(word, text) {
+    if !is_ended_word(word, text) {
         return None;
     }
     Some(word)
@@ -243,8 +244,23 @@ fn plain_local(text: &[u8]) -> Option<(TokenKind, usize)>
     Some((TokenKind::LocalName, 1 + name))
 }
 
+/// The length of the name that begins with `@`, where no string stands behind it. None says nothing.
+#[inline(always)]
+fn plain_global(text: &[u8]) -> Option<usize>
+    requires begins { starts_with is_at text.now ≡ true }
+    ensures token { IfSome result (λ n. Some (TokenKind.GlobalName, n) ≡ next_token text.now) }
+    ensures plain { IfSome result (λ n. is_quoted (take n text.now) ≡ false) }
+{
+    let behind = &text[1..];
+    if !begins(ClassSet::StartsName, behind) {
+        return None;
+    }
+    let name = run_of(ClassSet::InName, behind);
+    Some(1 + name)
+}
+
 /// The kind and the length of the token at the front, which has no string in it, where few bytes tell them: those of a
-/// mark, a word, an integer or a local. None says nothing.
+/// mark, a word, an integer, a local or the name of a global. None says nothing.
 #[inline(always)]
 pub fn plain_token_of(text: &[u8]) -> Option<(TokenKind, usize)>
     ensures token { IfSome result (λ found. Some found ≡ next_token text.now) }
@@ -260,6 +276,7 @@ pub fn plain_token_of(text: &[u8]) -> Option<(TokenKind, usize)>
         }
         Class::Digit => Some((TokenKind::Integer, plain_digits(text)?)),
         Class::Percent => plain_local(text),
+        Class::At => Some((TokenKind::GlobalName, plain_global(text)?)),
         _ => None,
     }
 }

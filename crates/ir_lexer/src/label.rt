@@ -1,6 +1,6 @@
 //! Labels, and the look-ahead that they need.
 ghost use Rattle.std.specs.Prelude.{◌≡◌, ◌+◌, ◌<◌, ◌≤◌, length, drop, true, IfSome};
-ghost use Rattle.ir_lexer.specs.Class.{in_word};
+ghost use Rattle.ir_lexer.specs.Class.{in_word, starts_with};
 ghost use Rattle.ir_lexer.specs.Form.{longest, run};
 ghost use Rattle.ir_lexer.specs.Label.{KnownRun, ends_name};
 ghost use Rattle.ir_lexer.specs.Table.{Label, tail_of};
@@ -53,7 +53,8 @@ fn ends_name(class: Class) -> bool
 #[inline(always)]
 pub fn is_ended_word(word: usize, text: &[u8]) -> bool
     requires { word ≡ run in_word text.now }
-    ensures { result ≡ true → KnownRun word text.now }
+    ensures known { result ≡ true → KnownRun word text.now }
+    ensures ends { result ≡ true → starts_with ends_name (drop word text.now) ≡ true }
 {
     word < text.len() && ends_name(class_of(text[word]))
 }

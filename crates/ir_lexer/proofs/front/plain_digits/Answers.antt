@@ -8,4 +8,4 @@ pub returns : goal.returns
 returns c =
     let s = c.args.text.now in
     let size = digits_length s _ c.requires.begins c.run_of-word.ensures.count in
-    digits_next s _ _ c.requires.begins size (c.is_ended_word.ensures c.if-not-is_ended_word.false) c.run_of-count.ensures.count
+    digits_next s _ _ c.requires.begins size (c.is_ended_word.ensures.known c.if-not-is_ended_word.false) c.run_of-count.ensures.count
