@@ -2,10 +2,10 @@
 use Rattle.std.proofs.Common.{◌≡◌, ℕ, zero, suc, ◌<◌, length, refl, ap, arith, Option, Some, None, Result, Ok, Err}
 use Rattle.ir_lexer.specs.Ahead.{AheadIs, before_all, answered, ahead_within, ahead}
 use Rattle.ir_lexer.specs.Laws.{WhatIsAhead}
-use Rattle.ir_lexer.specs.Lexer.{Lexing, rest, token_spelling, Says, answer, after}
+use Rattle.ir_lexer.specs.Lexer.{Lexing, rest, token_spelling, Says, answer, after, skipped}
 use Rattle.ir_lexer.specs.declared.token.Token.{Token}
 use Rattle.ir_lexer.specs.declared.token.BadByte.{BadByte}
-use Rattle.ir_lexer.proofs.Answering.{answers_are_right}
+use Rattle.ir_lexer.proofs.Answering.{answers_are_right, skipped_again}
 use Rattle.ir_lexer.proofs.TokenLists.{begins_less}
 
 -- a token leaves less
@@ -39,6 +39,27 @@ ahead_step l = go (answer l) refl
     go (Ok (Some t)) e =
         let d = less l t e in
         ap (before_all (record { token = token_spelling l.text t; place = t.place })) (enough (length (rest l)) (suc (length (rest (after l)))) (after l) d (omega arith))
+
+-- What is ahead of a gap is ahead behind it.
+answer_behind : (l : Lexing) → answer (skipped l) ≡ answer l
+unfolding answer
+answer_behind l = rw (skipped_again l) refl
+
+after_behind : (l : Lexing) → after (skipped l) ≡ after l
+unfolding after
+after_behind l = rw (skipped_again l) refl
+
+pub text_behind : (l : Lexing) → (skipped l).text ≡ l.text
+unfolding skipped
+text_behind l = refl
+
+pub ahead_skipped : (l : Lexing) → ahead (skipped l) ≡ ahead l
+ahead_skipped l = rw (ahead_step (skipped l), ahead_step l, answer_behind l, after_behind l) (go (answer l))
+  where
+    go : (r : Result (Option Token) BadByte) → answered (skipped l) r (ahead (after l)) ≡ answered l r (ahead (after l))
+    go (Ok None) = rw (after_behind l, text_behind l) refl
+    go (Err b) = refl
+    go (Ok (Some t)) = rw (text_behind l) refl
 
 -- What is ahead are the tokens of the rest, or those before its first bad byte.
 within_is : (n : ℕ) (l : Lexing) → length (rest l) < n → AheadIs (rest l) (ahead_within n l)

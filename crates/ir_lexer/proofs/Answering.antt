@@ -33,7 +33,7 @@ no_gap t = go (ends t false)
     go (at_end v g l) = rw (l, drop-length t) no_bytes
     go (at_byte gap b r parts l g out) = rw (l, parts, drop-append_seam gap (b ∷ r)) (gap_ends b r out).0
 
-skipped_again : (l : Lexing) → skipped (skipped l) ≡ skipped l
+pub skipped_again : (l : Lexing) → skipped (skipped l) ≡ skipped l
 unfolding skipped
 skipped_again l =
     let s = skipped l in

@@ -1,5 +1,5 @@
 -- Gaps, and the step over a gap and a token.
-use Rattle.std.proofs.Common.{◌≡◌, ℕ, suc, ◌+◌, List, [], ◌∷◌, ◌++◌, length, take, drop, Bool, true, false, not, inl, inr, refl, sym, ap, ◌∙◌, arith, Option, Some, None}
+use Rattle.std.proofs.Common.{◌≡◌, ℕ, zero, suc, ◌+◌, ◌<◌, List, [], ◌∷◌, ◌++◌, length, take, drop, Bool, true, false, not, inl, inr, refl, sym, ap, ◌∙◌, arith, Option, Some, None}
 use Rattle.std.proofs.Math.Seq.{take-append_seam, drop-append_seam, drop-length}
 use Rattle.std.proofs.lemmas.List.{take-append-drop, length-take-le}
 use Rattle.ir_lexer.specs.declared.class.Class.{Class}
@@ -159,3 +159,15 @@ pub bad_step : (text : List ℕ) (h : IsBad text) → (step text ≡ Bad (h.byte
 bad_step text h =
     let at = step_at text h.gap h.byte h.rest h.parts h.gap_is h.no_gap in
     (at.0 ∙ no_took (h.byte ∷ h.rest) h.no_token (next_token (h.byte ∷ h.rest)) refl, at.1)
+
+-- before a token stands no gap
+pub token_no_gap : (s : List ℕ) (kind : TokenKind) (n : ℕ) → next_token s ≡ Some (kind, n) → gap_length false s ≡ 0
+token_no_gap s kind n h = go s n (next_is s kind n h).some (token_first kind (take n s) (next_is s kind n h).token)
+  where
+    go : (s : List ℕ) (n : ℕ) → 0 < n → (b : ℕ) × (t : List ℕ) × (take n s ≡ b ∷ t) × (gap_state false (b ∷ []) ≡ None) → gap_length false s ≡ 0
+    go [] zero some f = absurd (omega arith)
+    go [] (suc n) some f = absurd (let k = f.2 in cc)
+    go (b ∷ bs) zero some f = absurd (omega arith)
+    go (b ∷ bs) (suc n) some f =
+        let same : f.0 ≡ b = (let k = f.2 in cc) in
+        (gap_ends b bs (rw same at f.3)).0

@@ -1,6 +1,6 @@
 //! Separators and comments.
-ghost use Rattle.std.specs.Prelude.{◌≡◌, ◌+◌, ◌^◌, ◌<◌, ◌≤◌, ◌||◌, length, take, drop, true, false};
-ghost use Rattle.ir_lexer.specs.Class.{byte_class, in_line, is_blank, is_semicolon};
+ghost use Rattle.std.specs.Prelude.{◌≡◌, ◌+◌, ◌^◌, ◌<◌, ◌≤◌, length, take, drop, true, false};
+ghost use Rattle.ir_lexer.specs.Class.{byte_class, in_line};
 ghost use Rattle.ir_lexer.specs.Form.{each};
 ghost use Rattle.ir_lexer.specs.Gap.{gap_length, in_gap};
 ghost use Rattle.ir_lexer.specs.Place.{place_after};
@@ -18,17 +18,9 @@ fn may_begin_gap(byte: u8) -> bool
     byte <= b' ' || byte == b';'
 }
 
-/// Whether a separator or a comment begins with a byte of the class.
+/// How many spaces stand at the front, of which one alone is looked for.
 #[inline(always)]
-fn begins_gap(class: Class) -> bool
-    ensures { result ≡ (is_blank class || is_semicolon class) }
-{
-    matches!(class, Class::Blank | Class::LineFeed | Class::Semicolon)
-}
-
-/// How many spaces the gap at the front begins with, of which one alone is looked for.
-#[inline(always)]
-fn first_space(bytes: &[u8]) -> usize
+pub fn first_space(bytes: &[u8]) -> usize
     ensures in_bytes { result ≤ length bytes.now }
     ensures gap { gap_length false bytes.now ≡ result + gap_length false (drop result bytes.now) }
     ensures in_line { each in_line (take result bytes.now) ≡ true }
@@ -40,9 +32,8 @@ fn first_space(bytes: &[u8]) -> usize
     }
 }
 
-/// The length of the separators and comments at the front, which begins at this place, and the place behind them,
-/// however long they are.
-fn any_gap_of(place: Place, bytes: &[u8]) -> (usize, Place)
+/// The length of the separators and comments at the front, which begins at this place, and the place behind them.
+pub fn gap_of(place: Place, bytes: &[u8]) -> (usize, Place)
     requires line { place.line + length bytes.now < 2 ^ 32 }
     requires column { place.column + length bytes.now < 2 ^ 32 }
     requires first { 1 ≤ place.column }
@@ -79,22 +70,4 @@ fn any_gap_of(place: Place, bytes: &[u8]) -> (usize, Place)
         }
     }
     (n, here)
-}
-
-/// The length of the separators and comments at the front, which begins at this place, and the place behind them. Between
-/// nearly all tokens stands nothing or one space, which is told by the byte behind it.
-#[inline(always)]
-pub fn gap_of(place: Place, bytes: &[u8]) -> (usize, Place)
-    requires line { place.line + length bytes.now < 2 ^ 32 }
-    requires column { place.column + length bytes.now < 2 ^ 32 }
-    requires first { 1 ≤ place.column }
-    ensures length { result.0 ≡ gap_length false bytes.now }
-    ensures in_bytes { result.0 ≤ length bytes.now }
-    ensures place { result.1 ≡ place_after place (take result.0 bytes.now) }
-{
-    let space = first_space(bytes);
-    if space < bytes.len() && !begins_gap(class_of(bytes[space])) {
-        return (space, place_in_line(place, space));
-    }
-    any_gap_of(place, bytes)
 }

@@ -1,5 +1,6 @@
 //! A lexer: it goes over a text that it borrows, token by token.
-ghost use Rattle.std.specs.Prelude.{◌≡◌, ◌≤◌, length, take, false, None, IfSome};
+ghost use Rattle.std.specs.Prelude.{◌≡◌, ◌+◌, ◌≤◌, length, take, drop, false, None, IfSome};
+ghost use Rattle.ir_lexer.specs.Ahead.{ahead};
 ghost use Rattle.ir_lexer.specs.Class.{in_word};
 ghost use Rattle.ir_lexer.specs.Form.{run};
 ghost use Rattle.ir_lexer.specs.Front.{next_token};
@@ -11,7 +12,7 @@ ghost use Rattle.ir_lexer.specs.Lexer.{at_start, rest, token_spelling, Says, IsP
 
 use crate::class::ClassSet;
 use crate::front::{fitting_token_of, plain_token_of};
-use crate::gap::gap_of;
+use crate::gap::{first_space, gap_of};
 use crate::label::{is_ended_word, run_without_label};
 use crate::place::{place_behind_token, place_in_line};
 use crate::run::{begins, run_of};
@@ -71,7 +72,6 @@ impl<'t> Lexer<'t> {
     }
 
     /// The length of the separators and comments here, and the place behind them.
-    #[inline(always)]
     fn gap(&self) -> (usize, Place)
         ensures length { result.0 ≡ gap_length false (rest self.now) }
         ensures in_rest { result.0 ≤ length (rest self.now) }
@@ -79,6 +79,18 @@ impl<'t> Lexer<'t> {
         ensures within { self.now.at ≤ length self.now.text }
     {
         gap_of(self.place, &self.text[self.at..])
+    }
+
+    /// How many spaces stand here, of which one alone is looked for, and the place behind them.
+    #[inline(always)]
+    fn space(&self) -> (usize, Place)
+        ensures gap { gap_length false (rest self.now) ≡ result.0 + gap_length false (drop result.0 (rest self.now)) }
+        ensures in_rest { result.0 ≤ length (rest self.now) }
+        ensures place { result.1 ≡ place_after (place_of self.now.text self.now.at) (take result.0 (rest self.now)) }
+        ensures within { self.now.at ≤ length self.now.text }
+    {
+        let space = first_space(&self.text[self.at..]);
+        (space, place_in_line(self.place, space))
     }
 
     /// Goes over separators and comments.
@@ -215,15 +227,23 @@ impl<'t> Lexer<'t> {
         self.read()
     }
 
-    /// The next token, as `next` answers it, where few bytes tell it: nearly all are of this kind. Else None, and the lexer
-    /// stands where it stood.
+    /// Goes over the separators and comments here. The tokens ahead stay the same.
+    pub fn skip_gap(&mut self)
+        ensures ahead { ahead self.new ≡ ahead self.old }
+        ensures text { self.new.text ≡ self.old.text }
+    {
+        self.skip();
+    }
+
+    /// The next token, as `next` answers it, where nothing or one space stands before it and few bytes tell it: nearly all are
+    /// of this kind. Else None, and the lexer stands where it stood.
     #[inline(always)]
     pub fn next_plain(&mut self) -> Option<Token>
         ensures answered { IfSome result (λ token. IsAnswered self.old token self.new) }
         ensures none { result ≡ None → self.new ≡ self.old }
         ensures text { self.new.text ≡ self.old.text }
     {
-        let (gap, place) = self.gap();
+        let (gap, place) = self.space();
         let start = self.at + gap;
         let (kind, count) = plain_token_of(&self.text[start..])?;
         self.advance(gap + count, place_in_line(place, count));

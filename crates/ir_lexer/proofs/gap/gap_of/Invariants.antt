@@ -1,7 +1,7 @@
 use Rattle.std.proofs.Common.{length, ◌-◌, ◌≡◌, ◌+◌, ◌≤◌, take, drop, false}
 use Rattle.ir_lexer.specs.Gap.{gap_length}
 use Rattle.ir_lexer.specs.Place.{place_after}
-use Rattle.ir_lexer.proofs.gap.any_gap_of.Given as goal
+use Rattle.ir_lexer.proofs.gap.gap_of.Given as goal
 
 abbrev pub invariant-gap : goal.invariant-gap
 invariant-gap l = record {
