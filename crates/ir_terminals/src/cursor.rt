@@ -3,9 +3,9 @@ ghost use Rattle.std.specs.Prelude.{◌≡◌, ◌+◌, ◌≤◌, ◌<◌, leng
 ghost use Rattle.ir_lexer.specs.Ahead.{AheadIs, ahead};
 ghost use Rattle.ir_lexer.specs.Lexer.{at_start};
 ghost use Rattle.ir_lexer.specs.declared.lexer.TheConstants.{LARGEST};
-ghost use Rattle.ir_terminals.specs.Position.{text_tokens, tokens_left, first_kind, first_spelling, first_place, first_terminal, is_bad_next, is_behind_less, IsFirstToken, stepped};
-ghost use Rattle.ir_terminals.specs.Front.{IsFrontOf, front_less};
-ghost use Rattle.ir_terminals.specs.Role.{class};
+ghost use Rattle.ir_terminals.specs.Position.{text_tokens, tokens_left, first_kind, first_spelling, first_place, first_terminal, is_bad_next, is_behind_less, is_less, IsFirstToken, stepped};
+ghost use Rattle.ir_terminals.specs.Front.{IsFrontOf, front_of, token_in};
+ghost use Rattle.ir_terminals.specs.Role.{class, terminal};
 ghost use Rattle.ir_terminals.specs.Terminal.{code};
 ghost use Rattle.phrase_rows.specs.Row.{begins};
 
@@ -17,15 +17,27 @@ use ir_lexer::{Lexer, Token, TokenKind};
 use std::alloc::Global;
 use std::marker::Model;
 
-/// What stands next: a token with its terminal, the end of the text, or a byte at which no token begins.
+/// What stands next in a text.
 #[derive(Clone, Copy)]
-enum NextTerminal {
-    /// A token, and its terminal.
-    Token(Token, Terminal),
+enum Standing {
+    /// A token.
+    Token,
     /// The end of the text.
     End,
-    /// The place of a byte at which no token begins.
-    Bad(Place),
+    /// A byte at which no token begins.
+    Bad,
+}
+
+/// What stands next, and where. If it is a token: its kind, what it is to phrases, and where its bytes start and end; else no
+/// bytes. It is written for each token, so that the small fields stand together, with no room between the fields.
+#[derive(Clone, Copy)]
+struct Front {
+    standing: Standing,
+    kind: TokenKind,
+    terminal: Terminal,
+    place: Place,
+    start: usize,
+    end: usize,
 }
 
 /// Goes over the tokens of a text, of which it copies none.
@@ -34,7 +46,7 @@ pub struct Cursor<'t> {
     alloc: Global,
     limits: Limits,
     lexer: Lexer<'t>,
-    front: NextTerminal,
+    front: Front,
     taken: usize,
     behind_less: bool,
 }
@@ -50,34 +62,100 @@ impl<'t> Model for Cursor<'t> {
     ghost invariant = { λ cursor. IsAt cursor.lexer cursor.front cursor.taken cursor.behind_less };
 }
 
+/// A token and its terminal, as they are kept. The line and the column are taken one by one, as the lexer has them.
+#[inline(always)]
+fn of_token(token: Token, terminal: Terminal) -> Front
+    ensures { result ≡ front_of token terminal }
+{
+    Front {
+        standing: Standing::Token,
+        kind: token.kind,
+        terminal,
+        place: Place {
+            line: token.place.line,
+            column: token.place.column,
+        },
+        start: token.start,
+        end: token.end,
+    }
+}
+
+/// The token that stands there, if one does; else no bytes.
+#[inline(always)]
+fn token_of(front: &Front) -> Token
+    ensures { result ≡ token_in front.now }
+{
+    Token {
+        kind: front.kind,
+        place: front.place,
+        start: front.start,
+        end: front.end,
+    }
+}
+
+/// The front at this place, where no token stands.
+fn without_token(standing: Standing, place: Place) -> Front
+    ensures standing { result.standing ≡ standing }
+    ensures place { result.place ≡ place }
+    ensures start { result.start ≡ 0 }
+    ensures no_bytes { result.«end» ≡ 0 }
+{
+    Front {
+        standing,
+        kind: TokenKind::Punctuation,
+        terminal: Terminal::Other,
+        place,
+        start: 0,
+        end: 0,
+    }
+}
+
+/// Puts a token where it is kept, with its terminal.
+#[inline(always)]
+fn put_token(token: Token, spelling: &[u8], front: &mut Front)
+    ensures { front.new ≡ front_of token (terminal (record { kind = token.kind; spelling = spelling.now })) }
+{
+    *front = of_token(token, terminal_of(token.kind, spelling));
+}
+
 /// Puts what the lexer answers next where it is kept, whatever that is. Few answers come here, so that this stands apart.
 #[cold]
 #[inline(never)]
-fn any_front(lexer: &mut Lexer, front: &mut NextTerminal)
+fn any_front(lexer: &mut Lexer, front: &mut Front)
     ensures { IsFrontOf lexer.old front.new lexer.new }
 {
     match lexer.next() {
         Ok(Some(token)) => {
             let terminal = terminal_of(token.kind, lexer.spelling(&token));
-            *front = NextTerminal::Token(token, terminal);
+            *front = of_token(token, terminal);
         }
-        Ok(None) => *front = NextTerminal::End,
-        Err(bad) => *front = NextTerminal::Bad(bad.place),
+        Ok(None) => *front = without_token(Standing::End, lexer.place()),
+        Err(bad) => *front = without_token(Standing::Bad, bad.place),
     }
 }
 
-/// Puts what the lexer answers next where it is kept. Nearly all that it answers are tokens that few bytes tell. The look
-/// for these is compiled into this, which is called, so that no place that takes a token holds a copy of it.
+/// Puts what the lexer answers next where it is kept, however many separators and comments stand before it.
 #[inline(never)]
-fn next_front(lexer: &mut Lexer, front: &mut NextTerminal)
+fn spaced_front(lexer: &mut Lexer, front: &mut Front)
+    ensures { IsFrontOf lexer.old front.new lexer.new }
+{
+    lexer.skip_gap();
+    match lexer.next_plain() {
+        Some(token) => put_token(token, lexer.spelling(&token), front),
+        None => any_front(lexer, front),
+    }
+}
+
+/// Puts what the lexer answers next where it is kept. Nearly all that it answers are tokens that few bytes tell, behind one
+/// space or none. The look for these is compiled into this, which is called, so that no place that takes a token holds a copy
+/// of it.
+#[inline(never)]
+fn next_front(lexer: &mut Lexer, front: &mut Front)
     ensures { IsFrontOf lexer.old front.new lexer.new }
 {
     match lexer.next_plain() {
-        Some(token) => {
-            let terminal = terminal_of(token.kind, lexer.spelling(&token));
-            *front = NextTerminal::Token(token, terminal);
-        }
-        None => any_front(lexer, front),
+        Some(token) => put_token(token, lexer.spelling(&token), front),
+        None => spaced_front(lexer, front),
     }
 }
 
@@ -91,7 +169,7 @@ impl<'t> Cursor<'t> {
         ensures few { length (text_tokens text.now) ≤ length text.now }
     {
         let mut lexer = Lexer::new(text);
-        let mut front = NextTerminal::End;
+        let mut front = without_token(Standing::End, lexer.place());
         next_front(&mut lexer, &mut front);
         Cursor {
             alloc,
@@ -129,10 +207,10 @@ impl<'t> Cursor<'t> {
     pub fn terminal(&self) -> Option<Terminal>
         ensures { result ≡ first_terminal (tokens_left self.now) }
     {
-        match self.front {
-            NextTerminal::Token(_, terminal) => Some(terminal),
-            NextTerminal::End => None,
-            NextTerminal::Bad(_) => None,
+        match self.front.standing {
+            Standing::Token => Some(self.front.terminal),
+            Standing::End => None,
+            Standing::Bad => None,
         }
     }
 
@@ -140,10 +218,10 @@ impl<'t> Cursor<'t> {
     pub fn kind(&self) -> Option<TokenKind>
         ensures { result ≡ first_kind (tokens_left self.now) }
     {
-        match self.front {
-            NextTerminal::Token(token, _) => Some(token.kind),
-            NextTerminal::End => None,
-            NextTerminal::Bad(_) => None,
+        match self.front.standing {
+            Standing::Token => Some(self.front.kind),
+            Standing::End => None,
+            Standing::Bad => None,
         }
     }
 
@@ -152,32 +230,24 @@ impl<'t> Cursor<'t> {
         ensures bytes { result.now ≡ first_spelling (tokens_left self.now) }
         ensures token { IsFirstToken (tokens_left self.now) }
     {
-        match self.front {
-            NextTerminal::Token(token, _) => self.lexer.spelling(&token),
-            NextTerminal::End => &[],
-            NextTerminal::Bad(_) => &[],
-        }
+        self.lexer.spelling(&token_of(&self.front))
     }
 
     /// The place of the next token, or of the end of the text, or of the byte at which no token begins.
     pub fn place(&self) -> Place
         ensures { result ≡ first_place self.now (tokens_left self.now) }
     {
-        match self.front {
-            NextTerminal::Token(token, _) => token.place,
-            NextTerminal::End => self.lexer.place(),
-            NextTerminal::Bad(place) => place,
-        }
+        self.front.place
     }
 
     /// Whether all tokens were taken, and behind them stands a byte at which no token begins.
     pub fn is_bad(&self) -> bool
         ensures { result ≡ is_bad_next self.now (tokens_left self.now) }
     {
-        match self.front {
-            NextTerminal::Token(_, _) => false,
-            NextTerminal::End => false,
-            NextTerminal::Bad(_) => true,
+        match self.front.standing {
+            Standing::Token => false,
+            Standing::End => false,
+            Standing::Bad => true,
         }
     }
 
@@ -200,22 +270,21 @@ impl<'t> Cursor<'t> {
     }
 
     /// Goes over the next token.
+    #[inline(always)]
     pub(crate) fn advance(&mut self)
         requires { 0 < length (tokens_left self.old) }
         ensures { self.new ≡ stepped self.old }
     {
-        self.behind_less = is_less(&self.front);
+        self.behind_less = is_less(self.front.terminal);
         next_front(&mut self.lexer, &mut self.front);
         self.taken += 1;
     }
 }
 
-/// Whether the token `<` stands next.
-fn is_less(front: &NextTerminal) -> bool
-    ensures { result ≡ front_less front.now }
+/// Whether a token of this terminal is `<`.
+#[inline(always)]
+fn is_less(terminal: Terminal) -> bool
+    ensures { result ≡ is_less terminal }
 {
-    match front {
-        NextTerminal::Token(_, Terminal::Less) => true,
-        _ => false,
-    }
+    matches!(terminal, Terminal::Less)
 }

@@ -3,7 +3,7 @@ use Rattle.ir_terminals.proofs.Fronts.{left_is}
 use Rattle.ir_terminals.proofs.cursor.Cursor.terminal.Goals as goal
 
 pub returns-in-Token : goal.returns-in-Token
-returns-in-Token c = rw (left_is _ _ _ _ _ _ c.self.view_is c.self.invariant, c.in-Token.is) (ap Some (rw c.in-Token.is at c.self.invariant.sound).2)
+returns-in-Token c = rw (left_is _ _ _ _ _ _ c.self.view_is c.self.invariant, c.in-Token.is) (ap Some (rw c.in-Token.is at c.self.invariant.sound.bytes).1)
 
 pub returns-in-End : goal.returns-in-End
 returns-in-End c = rw (left_is _ _ _ _ _ _ c.self.view_is c.self.invariant, c.in-End.is) refl
