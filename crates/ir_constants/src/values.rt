@@ -4,10 +4,12 @@ ghost use Rattle.phrase_rows.specs.Row.{begins};
 ghost use Rattle.ir_terminals.specs.Position.{tokens_left};
 ghost use Rattle.ir_terminals.specs.Role.{class};
 ghost use Rattle.ir_terminals.specs.Terminal.{code};
+ghost use Rattle.ir_constants.specs.Constants.{constant_row};
 ghost use Rattle.ir_constants.specs.Values.{value_row, typed_value_row};
-ghost use Rattle.ir_constants.specs.View.{value_view, typed_value_view};
+ghost use Rattle.ir_constants.specs.View.{constant_view, value_view, typed_value_view};
 ghost use Rattle.ir_terminals.specs.Follows.{Follows};
 
+use crate::constant::Constant;
 use crate::constants::{constant_of, integer_constant, is_integer_next};
 use crate::types::type_of;
 use crate::value::{TypedValue, WrittenValue};
@@ -20,27 +22,42 @@ fn is_local_next(cursor: &Cursor) -> bool
     matches!(cursor.terminal(), Some(Terminal::Local))
 }
 
-/// `VALUE`: a local, or a constant. Most constants are integers, so that these are read where a value is asked for.
+/// `CONST`. Most constants are integers, so that these are read where a constant is asked for.
 #[inline(always)]
-#[tactic(auto, using(crate::proofs::Leaves::integer_first), unfolding(crate::specs::Values::value_core))]
+#[tactic(auto, using(crate::proofs::Leaves::integer_first))]
+fn constant(cursor: &mut Cursor) -> Result<Constant, Fault>
+    ensures { Follows constant_row constant_view cursor.old result cursor.new }
+{
+    if is_integer_next(cursor) {
+        integer_constant(cursor)
+    } else {
+        constant_of(cursor)
+    }
+}
+
+/// `VALUE`: a local, or a constant.
+#[inline(always)]
+#[tactic(auto, unfolding(crate::specs::Values::value_core))]
 pub fn value_of(cursor: &mut Cursor) -> Result<WrittenValue, Fault>
     ensures { Follows value_row value_view cursor.old result cursor.new }
 {
     if is_local_next(cursor) {
         Ok(WrittenValue::Local(cursor.local()?))
-    } else if is_integer_next(cursor) {
-        Ok(WrittenValue::Constant(integer_constant(cursor)?))
     } else {
-        Ok(WrittenValue::Constant(constant_of(cursor)?))
+        Ok(WrittenValue::Constant(constant(cursor)?))
     }
 }
 
-/// `TYPE VALUE`
-#[tactic(auto, unfolding(crate::specs::Values::typed_value_core))]
+/// `TYPE VALUE`. Most values are locals, so that these are written where they are read.
+#[tactic(auto, unfolding(crate::specs::Values::typed_value_core, crate::specs::Values::value_core))]
 pub fn typed_value_of(cursor: &mut Cursor) -> Result<TypedValue, Fault>
     ensures { Follows typed_value_row typed_value_view cursor.old result cursor.new }
 {
     let ty = type_of(cursor)?;
-    let value = value_of(cursor)?;
+    if !is_local_next(cursor) {
+        let value = WrittenValue::Constant(constant(cursor)?);
+        return Ok(TypedValue { ty, value });
+    }
+    let value = WrittenValue::Local(cursor.local()?);
     Ok(TypedValue { ty, value })
 }
