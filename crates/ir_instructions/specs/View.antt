@@ -71,7 +71,7 @@ case_view c = (typed_constant_view c.value, c.target)
 -- the end of a block as a tree
 abbrev pub ending_view : WrittenEnding → EndingTree
 ending_view ending.ReturnVoid = ReturnVoid
-ending_view (ending.Return value) = Return (typed_value_view value.value)
+ending_view (ending.Return value) = Return (typed_value_view value)
 ending_view (ending.Jump target) = Jump target
 ending_view (ending.Branch branch) = Branch (typed_value_view branch.value.condition) branch.value.then_to branch.value.else_to
 ending_view (ending.Switch switch) = Switch (typed_value_view switch.value.value) switch.value.otherwise (map case_view switch.value.cases.items)

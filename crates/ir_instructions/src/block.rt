@@ -56,7 +56,7 @@ pub struct Switch {
 /// How a block ends (LangRef, "Terminator Instructions").
 ///
 /// ```
-/// WrittenEnding::Return(Box::new(alloc, value)?) // `ret i32 0`, whose value is `i32 0`
+/// WrittenEnding::Return(value) // `ret i32 0`, whose value is `i32 0`
 /// WrittenEnding::Jump(Local::Named(a)) // `br label %a`, where `a` is that name with its place
 /// ```
 #[derive(Drop)]
@@ -64,7 +64,7 @@ pub enum WrittenEnding {
     /// `ret void`
     ReturnVoid,
     /// `ret` with a value.
-    Return(Box<TypedValue>),
+    Return(TypedValue),
     /// `br` to one block.
     Jump(Local),
     /// `br` on a condition.

@@ -9,6 +9,7 @@ use crate::attributes::{convention, function_attributes, parameter_attributes};
 use crate::boxed::boxed;
 use crate::metadata::attachments;
 use crate::operation::{Operation, SignatureTypes, WrittenCall};
+use crate::room::fitted;
 use ir_constants::{Type, TypedValue, WrittenValue, begins_type, type_of, value_of};
 use ir_terminals::{Cursor, Fault, Terminal};
 
@@ -83,22 +84,21 @@ fn argument(cursor: &mut Cursor) -> Result<TypedValue, Fault>
     Ok(TypedValue { ty, value })
 }
 
-/// `(TYPE PDROP* VALUE),*`
+/// `(TYPE PDROP* VALUE),*`. There is room for two at first: few calls have more arguments.
 #[tactic(auto, unfolding(crate::specs::Calls::argument_list_core))]
 fn argument_list(cursor: &mut Cursor) -> Result<Vec<TypedValue>, Fault>
     ensures { Follows argument_list_row (λ x. map typed_value_view x.items) cursor.old result cursor.new }
 {
-    let mut arguments = Vec::new(cursor.alloc());
     if !begins_type(cursor) {
-        return Ok(arguments);
+        return Ok(Vec::new(cursor.alloc()));
     }
+    let mut arguments = Vec::with_capacity(cursor.alloc(), 2)?;
     arguments.push(argument(cursor)?)?;
     'arguments: while cursor.is_class_next(Terminal::Comma) {
         cursor.take_class(Terminal::Comma)?;
         arguments.push(argument(cursor)?)?;
     }
-    arguments.shrink_to_fit();
-    Ok(arguments)
+    Ok(fitted(arguments))
 }
 
 /// `( (TYPE PDROP* VALUE),* )`

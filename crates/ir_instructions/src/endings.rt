@@ -40,8 +40,7 @@ fn returned(cursor: &mut Cursor) -> Result<WrittenEnding, Fault>
 {
     let ty = value_type_of(cursor)?;
     let value = value_of(cursor)?;
-    let value = boxed(cursor.alloc(), TypedValue { ty, value })?;
-    Ok(WrittenEnding::Return(value))
+    Ok(WrittenEnding::Return(TypedValue { ty, value }))
 }
 
 /// `void`, or `TYPE VALUE`.

@@ -9,9 +9,9 @@ const _: () = prove!(size_of::<Operation>() == 16);
 
 const _: () = prove!(size_of::<Instruction>() == 56);
 
-const _: () = prove!(size_of::<WrittenEnding>() == 40);
+const _: () = prove!(size_of::<WrittenEnding>() == 80);
 
-const _: () = prove!(size_of::<WrittenBlock>() == 104);
+const _: () = prove!(size_of::<WrittenBlock>() == 144);
 
 const _: () = prove!(size_of::<WrittenCase>() == 96);
 

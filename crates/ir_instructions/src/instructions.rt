@@ -13,6 +13,7 @@ use crate::block::Instruction;
 use crate::calls::call;
 use crate::operation::Operation;
 use crate::operations::operation_behind;
+use crate::room::fitted;
 use ir_tables::Opcode;
 use ir_terminals::{Cursor, Fault, Terminal};
 
@@ -161,6 +162,5 @@ pub fn instructions(cursor: &mut Cursor) -> Result<Vec<Instruction>, Fault>
     'instructions: while is_instruction_next(cursor) {
         instructions.push(instruction(cursor)?)?;
     }
-    instructions.shrink_to_fit();
-    Ok(instructions)
+    Ok(fitted(instructions))
 }

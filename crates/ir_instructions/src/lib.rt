@@ -26,6 +26,7 @@ mod metadata;
 mod operation;
 mod operations;
 mod parts;
+mod room;
 mod tails;
 
 pub use attributes::{convention, function_attributes, parameter_attributes, section};
@@ -37,3 +38,4 @@ pub use operation::{
     Address, Alloca, CastParts, Extraction, Load, Operands, Operation, Phi, SignatureTypes, Store,
     WrittenCall, WrittenChoice, WrittenIncoming, WrittenInsertion,
 };
+pub use room::fitted;

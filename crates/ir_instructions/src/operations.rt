@@ -3,7 +3,7 @@ ghost use Rattle.ir_instructions.specs.Operations.{binary_row, compare_row, cast
 ghost use Rattle.ir_instructions.specs.View.{operation_view};
 ghost use Rattle.ir_terminals.specs.Follows.{Follows};
 
-use crate::boxed::boxed;
+use crate::boxed::{boxed, refused};
 use crate::calls::call;
 use crate::listed::more_parts;
 use crate::metadata::attachments;
@@ -70,13 +70,17 @@ fn select(cursor: &mut Cursor) -> Result<Operation, Fault>
     ensures { Follows select_row operation_view cursor.old result cursor.new }
 {
     let condition = typed_value_of(cursor)?;
-    let (first, second) = arms(cursor)?;
-    let choice = WrittenChoice {
-        condition,
-        first,
-        second,
-    };
-    Ok(Operation::Select(boxed(cursor.alloc(), choice)?))
+    match arms(cursor) {
+        Ok((first, second)) => {
+            let choice = WrittenChoice {
+                condition,
+                first,
+                second,
+            };
+            Ok(Operation::Select(boxed(cursor.alloc(), choice)?))
+        }
+        Err(fault) => Err(refused(condition, fault)),
+    }
 }
 
 /// `TYPE VALUE (, MD)*`

@@ -1,11 +1,13 @@
 //! Reads parts that instructions share.
 ghost use Rattle.std.specs.Prelude.{◌≡◌, map};
+ghost use Rattle.phrase_rows.specs.Row.{keep_first};
 ghost use Rattle.ir_constants.specs.View.{type_view, value_view, typed_value_view};
+ghost use Rattle.ir_instructions.specs.Dropped.{attachments_row};
 ghost use Rattle.ir_instructions.specs.Operations.{next_value_row, next_typed_value_row, operands_row, cast_type_row, arms_row, address_row, from_block_row, incoming_row, operand_list_row, indices_row};
 ghost use Rattle.ir_instructions.specs.View.{incoming_view, operands_view};
 ghost use Rattle.ir_terminals.specs.Follows.{Follows};
 
-use crate::boxed::boxed;
+use crate::boxed::{boxed, refused};
 use crate::listed::more_parts;
 use crate::metadata::attachments;
 use crate::operation::{Operands, WrittenIncoming};
@@ -32,15 +34,27 @@ pub fn next_typed_value(cursor: &mut Cursor) -> Result<TypedValue, Fault>
     typed_value_of(cursor)
 }
 
+/// `, VALUE (, MD)*`
+fn last_value(cursor: &mut Cursor) -> Result<WrittenValue, Fault>
+    ensures { Follows (λ limits. keep_first (next_value_row limits) attachments_row) value_view cursor.old result cursor.new }
+{
+    let value = next_value(cursor)?;
+    match attachments(cursor) {
+        Ok(()) => Ok(value),
+        Err(fault) => Err(refused(value, fault)),
+    }
+}
+
 /// `TYPE VALUE , VALUE (, MD)*`
 #[tactic(auto, unfolding(crate::specs::Operations::operands_core))]
 pub fn operands(cursor: &mut Cursor) -> Result<Box<Operands>, Fault>
     ensures { Follows operands_row (λ x. operands_view x.value) cursor.old result cursor.new }
 {
     let left = typed_value_of(cursor)?;
-    let right = next_value(cursor)?;
-    attachments(cursor)?;
-    Ok(boxed(cursor.alloc(), Operands { left, right })?)
+    match last_value(cursor) {
+        Ok(right) => Ok(boxed(cursor.alloc(), Operands { left, right })?),
+        Err(fault) => Err(refused(left, fault)),
+    }
 }
 
 /// `to TYPE (, MD)*`
@@ -54,6 +68,17 @@ pub fn cast_type(cursor: &mut Cursor) -> Result<Type, Fault>
     Ok(to)
 }
 
+/// `, TYPE VALUE (, MD)*`
+fn last_typed_value(cursor: &mut Cursor) -> Result<TypedValue, Fault>
+    ensures { Follows (λ limits. keep_first (next_typed_value_row limits) attachments_row) typed_value_view cursor.old result cursor.new }
+{
+    let value = next_typed_value(cursor)?;
+    match attachments(cursor) {
+        Ok(()) => Ok(value),
+        Err(fault) => Err(refused(value, fault)),
+    }
+}
+
 /// `, TYPE VALUE , TYPE VALUE (, MD)*`. It is called, so that two values are moved as a whole where they are joined.
 #[inline(never)]
 #[tactic(auto, unfolding(crate::specs::Operations::arms_core))]
@@ -61,9 +86,10 @@ pub fn arms(cursor: &mut Cursor) -> Result<(TypedValue, TypedValue), Fault>
     ensures { Follows arms_row (λ x. (typed_value_view x.0, typed_value_view x.1)) cursor.old result cursor.new }
 {
     let first = next_typed_value(cursor)?;
-    let second = next_typed_value(cursor)?;
-    attachments(cursor)?;
-    Ok((first, second))
+    match last_typed_value(cursor) {
+        Ok(second) => Ok((first, second)),
+        Err(fault) => Err(refused(first, fault)),
+    }
 }
 
 /// `, TYPE VALUE (, align INT)? (, MD)*`
@@ -73,8 +99,10 @@ pub fn address(cursor: &mut Cursor) -> Result<(TypedValue, Option<Integer>), Fau
     ensures { Follows address_row (λ x. (typed_value_view x.0, x.1)) cursor.old result cursor.new }
 {
     let address = next_typed_value(cursor)?;
-    let alignment = alignment(cursor)?;
-    Ok((address, alignment))
+    match alignment(cursor) {
+        Ok(alignment) => Ok((address, alignment)),
+        Err(fault) => Err(refused(address, fault)),
+    }
 }
 
 /// `, LOCAL ]`
