@@ -38,4 +38,3 @@ pub use operation::{
     Address, Alloca, CastParts, Extraction, Load, Operands, Operation, Phi, SignatureTypes, Store,
     WrittenCall, WrittenChoice, WrittenIncoming, WrittenInsertion,
 };
-pub use room::fitted;

@@ -9,7 +9,7 @@ fn is_close(length: usize, room: usize) -> bool {
 
 /// The list, in little more memory than it needs: at most one place or a quarter of all is spare.
 #[inline(always)]
-pub fn fitted<T: Drop>(list: Vec<T>) -> Vec<T>
+pub(crate) fn fitted<T: Drop>(list: Vec<T>) -> Vec<T>
     ensures { result.items ≡ list.items }
 {
     if is_close(list.len(), list.capacity()) {
