@@ -229,6 +229,7 @@ impl<'t> Lexer<'t> {
 
     /// Goes over the separators and comments here. The tokens ahead stay the same.
     pub fn skip_gap(&mut self)
+        ensures skipped { self.new ≡ skipped self.old }
         ensures ahead { ahead self.new ≡ ahead self.old }
         ensures text { self.new.text ≡ self.old.text }
     {
