@@ -33,6 +33,7 @@ pub fn first_space(bytes: &[u8]) -> usize
 }
 
 /// The length of the separators and comments at the front, which begins at this place, and the place behind them.
+#[inline(always)]
 pub fn gap_of(place: Place, bytes: &[u8]) -> (usize, Place)
     requires line { place.line + length bytes.now < 2 ^ 32 }
     requires column { place.column + length bytes.now < 2 ^ 32 }

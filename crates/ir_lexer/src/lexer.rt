@@ -72,6 +72,7 @@ impl<'t> Lexer<'t> {
     }
 
     /// The length of the separators and comments here, and the place behind them.
+    #[inline(always)]
     fn gap(&self) -> (usize, Place)
         ensures length { result.0 ≡ gap_length false (rest self.now) }
         ensures in_rest { result.0 ≤ length (rest self.now) }
@@ -94,6 +95,7 @@ impl<'t> Lexer<'t> {
     }
 
     /// Goes over separators and comments.
+    #[inline(always)]
     #[tactic(auto, unfolding(crate::specs::Lexer::skipped))]
     fn skip(&mut self)
         ensures skipped { self.new ≡ skipped self.old }
