@@ -44,3 +44,20 @@ first_more old new before name none put are = record {
         let no : place_of_name before other ≡ None = sym (are.each other) ∙ ap (value_of old) same ∙ none in
         ap (λ o. first_place o (Some name.place)) (sym no)
     by other false e = are.each other ∙ after (place_of_name before other)
+
+-- a name that is there already
+pub first_again : (table : List (Bytes × Place)) (before : List PlacedName) (name : PlacedName) (place : Place) → value_of table name.name ≡ Some place → AreFirst table before → AreFirst table (before ++ name ∷ [])
+first_again table before name place some are = record {
+  each = λ other. are.each other ∙ by other (bytes_eq name.name other) refl ∙ sym (place-append before name other);
+}
+  where
+    after : (o : Option Place) → o ≡ first_place o None
+    after None = refl
+    after (Some p) = refl
+
+    by : (other : Bytes) (x : Bool) → bytes_eq name.name other ≡ x → place_of_name before other ≡ first_place (place_of_name before other) (cond x (Some name.place) None)
+    by other true e =
+        let same = (bytes_eq-Decides name.name other).0 e in
+        let is : place_of_name before other ≡ Some place = sym (are.each other) ∙ ap (value_of table) (sym same) ∙ some in
+        is ∙ ap (λ o. first_place o (Some name.place)) (sym is)
+    by other false e = after (place_of_name before other)

@@ -4,3 +4,4 @@ mod InOrder
 mod SeenItem
 mod Parameters
 mod Bodies
+mod DistinctNames

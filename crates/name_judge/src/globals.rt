@@ -1,22 +1,21 @@
 //! Judges the variables and the aliases of a text.
 #![tactic(auto, using(type_judge::proofs::Parts::judged_front, type_judge::proofs::Parts::judged_rest, type_judge::proofs::Parts::judged_stop, type_judge::proofs::Parts::judged_next))]
 
-ghost use Rattle.std.specs.Prelude.{OnOk, List, [], ◌∷◌, ◌++◌, option_map};
+ghost use Rattle.std.specs.Prelude.{◌≡◌, List, [], ◌∷◌, ◌++◌, option_map};
 ghost use Rattle.ir_constants.specs.View.{type_view, constant_view};
 ghost use Rattle.ir_syntax.specs.View.{variable_view, alias_type_view, alias_view};
 ghost use Rattle.ir_terminals.specs.declared.values.PlacedName.{PlacedName};
 ghost use Rattle.name_rules.specs.Breaks.{initialiser_demands, content_demands, variable_demands, alias_type_demands, alias_demands};
+ghost use Rattle.name_rules.specs.Demand.{place_of_name};
 ghost use Rattle.name_rules.specs.TypeDemands.{is_global};
 ghost use Rattle.type_judge.specs.Gathered.{IsKnown, known_of};
 ghost use Rattle.type_judge.specs.Judging.{IsJudged};
-ghost use Rattle.name_judge.specs.Seen.{AreFirst};
 
-use crate::seen::check_new;
+use crate::earlier::check_apart;
 use ir_base::Place;
 use ir_constants::{Constant, Type};
 use ir_syntax::{WrittenAlias, WrittenAliasType, WrittenVariable};
 use name_rules::ResolveFault;
-use name_table::NameTable;
 use std::alloc::Global;
 use type_judge::{Known, check_alignment, check_constant, check_global, check_type, check_types};
 
@@ -50,18 +49,17 @@ fn check_content(
     check_alignment(&variable.alignment)
 }
 
-/// A variable, behind globals of these names.
-pub(crate) fn check_variable<'a>(
+/// A variable, whose name stood first at that place.
+pub(crate) fn check_variable(
     alloc: Global,
     known: &Known,
-    globals: &mut NameTable<'a, Place>,
-    variable: &'a WrittenVariable,
+    earlier: Option<Place>,
+    variable: &WrittenVariable,
 ) -> Result<(), ResolveFault>
     requires known { IsKnown known.now }
-    ensures judged { (before : List PlacedName) → AreFirst globals.old before → IsJudged (variable_demands (known_of known.now) before (variable_view variable.now)) result }
-    ensures seen { (before : List PlacedName) → AreFirst globals.old before → OnOk result (AreFirst globals.new (before ++ variable.now.name ∷ [])) }
+    ensures { (before : List PlacedName) → earlier ≡ place_of_name before variable.now.name.name → IsJudged (variable_demands (known_of known.now) before (variable_view variable.now)) result }
 {
-    check_new(globals, &variable.name)?;
+    check_apart(earlier, variable.name.place)?;
     check_content(alloc, known, variable)
 }
 
@@ -88,17 +86,16 @@ fn check_meaning(alloc: Global, known: &Known, alias: &WrittenAlias) -> Result<(
     check_global(alloc, known, &alias.target)
 }
 
-/// An alias, behind globals of these names.
-pub(crate) fn check_alias<'a>(
+/// An alias, whose name stood first at that place.
+pub(crate) fn check_alias(
     alloc: Global,
     known: &Known,
-    globals: &mut NameTable<'a, Place>,
-    alias: &'a WrittenAlias,
+    earlier: Option<Place>,
+    alias: &WrittenAlias,
 ) -> Result<(), ResolveFault>
     requires known { IsKnown known.now }
-    ensures judged { (before : List PlacedName) → AreFirst globals.old before → IsJudged (alias_demands (known_of known.now) before (alias_view alias.now)) result }
-    ensures seen { (before : List PlacedName) → AreFirst globals.old before → OnOk result (AreFirst globals.new (before ++ alias.now.name ∷ [])) }
+    ensures { (before : List PlacedName) → earlier ≡ place_of_name before alias.now.name.name → IsJudged (alias_demands (known_of known.now) before (alias_view alias.now)) result }
 {
-    check_new(globals, &alias.name)?;
+    check_apart(earlier, alias.name.place)?;
     check_meaning(alloc, known, alias)
 }

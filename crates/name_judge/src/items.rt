@@ -7,32 +7,37 @@ ghost use Rattle.name_rules.specs.ModuleOf.{structs_in};
 ghost use Rattle.type_judge.specs.Gathered.{IsKnown, known_of};
 ghost use Rattle.type_judge.specs.Judging.{IsJudged};
 ghost use Rattle.struct_ends.specs.Mentioning.{AreMentions, structs_of};
-ghost use Rattle.name_judge.specs.Seen.{IsSeen};
+ghost use Rattle.name_judge.specs.Seen.{IsSeen, earlier_of};
 
+use crate::earlier::earlier_global;
 use crate::functions::{check_declaration, check_function};
 use crate::globals::{check_alias, check_variable};
 use crate::seen::{Seen, check_first, nothing_seen};
 use crate::structs::check_struct;
+use ir_base::Place;
 use ir_syntax::{Item, Items};
 use local_judge::LocalTables;
 use name_rules::ResolveFault;
+use name_table::NameTable;
 use std::alloc::Global;
 use struct_ends::StructMentions;
 use type_judge::Known;
 
-/// An item, behind what has stood in the text so far. The tables of locals may be those of any function before.
+/// An item, behind what has stood in the text so far, where the first global of its name stood at that place. The tables of
+/// locals may be those of any function before.
 fn check_item<'a>(
     alloc: Global,
     known: &Known,
     mentions: &StructMentions,
     seen: &mut Seen<'a>,
     tables: &mut LocalTables<'a>,
+    earlier: Option<Place>,
     item: &'a Item,
 ) -> Result<(), ResolveFault>
     requires known { IsKnown known.now }
     requires mentions { AreMentions mentions.now }
     requires structs { structs_of mentions.now ≡ (known_of known.now).structs }
-    ensures judged { (before : List ItemTree) → IsSeen seen.old before → IsJudged (item_demands (known_of known.now) before (item_view item.now)) result }
+    ensures judged { (before : List ItemTree) → IsSeen seen.old before → earlier ≡ earlier_of before (item_view item.now) → IsJudged (item_demands (known_of known.now) before (item_view item.now)) result }
     ensures seen { (before : List ItemTree) → IsSeen seen.old before → OnOk result (IsSeen seen.new (before ++ item_view item.now ∷ [])) }
 {
     match item {
@@ -42,13 +47,13 @@ fn check_item<'a>(
         Item::Struct { name, body } => {
             check_struct(alloc, known, mentions, &mut seen.structs, name, body)
         }
-        Item::Variable(variable) => check_variable(alloc, known, &mut seen.globals, variable),
-        Item::Alias(alias) => check_alias(alloc, known, &mut seen.globals, alias),
+        Item::Variable(variable) => check_variable(alloc, known, earlier, variable),
+        Item::Alias(alias) => check_alias(alloc, known, earlier, alias),
         Item::Declaration { declaration, .. } => {
-            check_declaration(alloc, known, &mut seen.globals, declaration)
+            check_declaration(alloc, known, earlier, declaration)
         }
         Item::Definition { definition, .. } => {
-            check_function(alloc, known, &mut seen.globals, tables, definition)
+            check_function(alloc, known, earlier, tables, definition)
         }
         Item::Attributes(_) => Ok(()),
         Item::Metadata(_) => Ok(()),
@@ -62,10 +67,21 @@ pub(crate) fn check_items(alloc: Global, items: &Items) -> Result<(), ResolveFau
 {
     let known = Known::of_items(alloc, items)?;
     let mentions = StructMentions::of_items(alloc, items)?;
+    let distinct = known.are_distinct();
     let mut seen = nothing_seen(alloc);
+    let mut globals = NameTable::new(alloc);
     let mut tables = LocalTables::new(alloc);
     'items: for item in items.as_slice() {
-        check_item(alloc, &known, &mentions, &mut seen, &mut tables, item)?;
+        let earlier = earlier_global(distinct, &mut globals, item)?;
+        check_item(
+            alloc,
+            &known,
+            &mentions,
+            &mut seen,
+            &mut tables,
+            earlier,
+            item,
+        )?;
     }
     Ok(())
 }

@@ -18,6 +18,7 @@ ghost use Rattle.name_rules.specs.Breaks.{first_break};
 ghost use Rattle.name_rules.specs.Demand.{Tells};
 
 mod counts;
+mod earlier;
 mod functions;
 mod globals;
 mod items;

@@ -18,7 +18,6 @@ pub(crate) struct Seen<'a> {
     pub(crate) layout: Option<Place>,
     pub(crate) triple: Option<Place>,
     pub(crate) structs: NameTable<'a, Place>,
-    pub(crate) globals: NameTable<'a, Place>,
 }
 
 /// Nothing has stood there.
@@ -30,7 +29,6 @@ pub(crate) fn nothing_seen<'a>(alloc: Global) -> Seen<'a>
         layout: None,
         triple: None,
         structs: NameTable::new(alloc),
-        globals: NameTable::new(alloc),
     }
 }
 

@@ -1,19 +1,34 @@
 -- For `Known::of_items`, and all calls that are handed a `Known`: what a text defines, as it is gathered.
-use Rattle.std.specs.Prelude.{◌≡◌, List, is_some}
-use Rattle.ir_base.specs.declared.place.Place.{Place}
+use Rattle.std.specs.Prelude.{◌≡◌, Bool, true, not, ◌&&◌, List, [], ◌∷◌, ◌++◌, bytes_eq}
+use Rattle.std.specs.Borrow.{Bor}
+use Rattle.std.specs.List.{list_any}
 use Rattle.ir_syntax.specs.View.{items_view}
 use Rattle.module_arena.specs.Module.{Bytes}
-use Rattle.name_table.specs.Entries.{value_of}
 use Rattle.name_rules.specs.Breaks.{known_in}
 pub use Rattle.name_rules.specs.Breaks.{global_names}
 use Rattle.name_rules.specs.ModuleOf.{structs_in}
 use Rattle.name_rules.specs.TypeDemands.{Known, has_name}
 use Rattle.struct_order.specs.Measuring.{AreMeasured, structs_of}
 use Rattle.type_judge.specs.declared.known.Known as the_known
+use Rattle.type_judge.specs.declared.known.GlobalNames.{GlobalNames}
 
--- the table has exactly these names
-pub record AreNames (table : List (Bytes × Place)) (names : List Bytes) : Type 0 where
-  pub each : (name : Bytes) → is_some (value_of table name) ≡ has_name names name
+-- the keys are exactly these names
+pub record AreNames (keys : List (Bor Bytes)) (names : List Bytes) : Type 0 where
+  pub each : (name : Bytes) → list_any (λ (key : Bor Bytes). bytes_eq name key.now) keys ≡ has_name names name
+
+-- behind these names each is new
+abbrev pub are_new : List Bytes → List Bytes → Bool
+are_new before [] = true
+are_new before (name ∷ more) = not (has_name before name) && are_new (before ++ name ∷ []) more
+
+-- no two names are the same
+abbrev pub are_distinct : List Bytes → Bool
+are_distinct names = are_new [] names
+
+-- these are the names, and it is told whether they are distinct
+pub record AreGlobals (globals : GlobalNames) (all : List Bytes) : Type 0 where
+  pub names : AreNames globals.names.keys all
+  pub distinct : globals.distinct ≡ are_distinct all
 
 -- what the items define
 abbrev pub known_of : the_known.Known → Known
@@ -23,7 +38,7 @@ known_of gathered = known_in (items_view gathered.items.now)
 pub record KnownFacts (gathered : the_known.Known) : Type 0 where
   pub measured : AreMeasured gathered.structs
   pub structs : structs_of gathered.structs ≡ structs_in (items_view gathered.items.now)
-  pub globals : AreNames gathered.globals (global_names (items_view gathered.items.now))
+  pub globals : AreGlobals gathered.globals (global_names (items_view gathered.items.now))
 
 -- the same, in which no search looks
 unfoldable pub IsKnown : the_known.Known → Type 0

@@ -2,31 +2,57 @@
 //! functions.
 #![tactic(auto, using(crate::proofs::Parts::judged_front, crate::proofs::Parts::judged_rest, crate::proofs::Parts::judged_stop, crate::proofs::Parts::judged_next))]
 
-ghost use Rattle.std.specs.Prelude.{◌≡◌, ◌<◌, ◌^◌, length, IfOk, OnOk, List, ℕ, [], ◌∷◌, ◌++◌, is_some, option_copied};
+ghost use Rattle.std.specs.Prelude.{◌≡◌, ◌<◌, ◌^◌, length, IfOk, OnOk, List, ℕ, [], ◌∷◌, ◌++◌, option_copied};
 ghost use Rattle.ir_constants.specs.View.{type_view};
 ghost use Rattle.ir_syntax.specs.View.{item_view, items_view};
-ghost use Rattle.name_table.specs.Entries.{value_of};
 ghost use Rattle.name_rules.specs.Breaks.{known_in, global_name};
 ghost use Rattle.name_rules.specs.Measured.{names_of};
 ghost use Rattle.name_rules.specs.ModuleOf.{structs_in};
 ghost use Rattle.name_rules.specs.TypeDemands.{has_name, measured};
-ghost use Rattle.type_judge.specs.Gathered.{AreNames, IsKnown, global_names, known_of};
+ghost use Rattle.type_judge.specs.Gathered.{AreGlobals, IsKnown, are_distinct, global_names, known_of};
 
-use ir_base::Place;
+use indexmap::IndexSet;
 use ir_constants::Type;
 use ir_syntax::{Item, Items};
 use ir_terminals::PlacedName;
-use name_table::NameTable;
 use std::alloc::{AllocError, Global};
 use struct_order::StructMeasures;
 use type_table::Measure;
+
+/// The names of variables, aliases and functions, and whether no two of them are the same.
+#[derive(Drop)]
+struct GlobalNames<'a> {
+    names: IndexSet<&'a [u8]>,
+    distinct: bool,
+}
+
+impl<'a> GlobalNames<'a> {
+    /// None yet, with room for so many.
+    fn with_capacity(alloc: Global, count: usize) -> Result<Self, AllocError>
+        ensures { IfOk result (λ globals. AreGlobals globals []) }
+    {
+        Ok(GlobalNames {
+            names: IndexSet::with_capacity(alloc, count)?,
+            distinct: true,
+        })
+    }
+
+    /// Adds a name.
+    fn add(&mut self, name: &'a PlacedName) -> Result<(), AllocError>
+        ensures { (names : List (List ℕ)) → AreGlobals self.old names → OnOk result (AreGlobals self.new (names ++ name.now.name ∷ [])) }
+    {
+        let is_new = self.names.insert(name.name.bytes())?;
+        self.distinct &= is_new;
+        Ok(())
+    }
+}
 
 /// What a text defines.
 #[derive(Drop)]
 pub struct Known<'a> {
     items: &'a Items,
     structs: StructMeasures<'a>,
-    globals: NameTable<'a, Place>,
+    globals: GlobalNames<'a>,
 }
 
 /// The token that names a variable, an alias or a function.
@@ -48,20 +74,21 @@ pub fn global_name(item: &Item) -> Option<&PlacedName>
 }
 
 /// Adds the name of the item, where it has one.
-fn add_global<'a>(globals: &mut NameTable<'a, Place>, item: &'a Item) -> Result<(), AllocError>
-    ensures { (names : List (List ℕ)) → AreNames globals.old names → OnOk result (AreNames globals.new (names ++ global_names (item_view item.now ∷ []))) }
+fn add_global<'a>(globals: &mut GlobalNames<'a>, item: &'a Item) -> Result<(), AllocError>
+    ensures { (names : List (List ℕ)) → AreGlobals globals.old names → OnOk result (AreGlobals globals.new (names ++ global_names (item_view item.now ∷ []))) }
 {
     match global_name(item) {
         None => Ok(()),
-        Some(name) => globals.put(name.name.bytes(), name.place),
+        Some(name) => globals.add(name),
     }
 }
 
 /// The names of variables, aliases and functions.
-fn gather_globals<'a>(alloc: Global, items: &'a Items) -> Result<NameTable<'a, Place>, AllocError>
-    ensures { IfOk result (λ globals. AreNames globals (global_names (items_view items.now))) }
+fn gather_globals<'a>(alloc: Global, items: &'a Items) -> Result<GlobalNames<'a>, AllocError>
+    ensures { IfOk result (λ globals. AreGlobals globals (global_names (items_view items.now))) }
 {
-    let mut globals = NameTable::new(alloc);
+    // Nearly all items of a text are such.
+    let mut globals = GlobalNames::with_capacity(alloc, items.len())?;
     'items: for item in items.as_slice() {
         add_global(&mut globals, item)?;
     }
@@ -97,7 +124,15 @@ impl<'a> Known<'a> {
         requires { IsKnown self.now }
         ensures { result ≡ has_name (known_of self.now).globals name.now }
     {
-        self.globals.get(name).is_some()
+        self.globals.names.contains(&name)
+    }
+
+    /// Whether no two variables, aliases or functions have the same name.
+    pub fn are_distinct(&self) -> bool
+        requires { IsKnown self.now }
+        ensures { result ≡ are_distinct (known_of self.now).globals }
+    {
+        self.globals.distinct
     }
 
     /// The measure of a type.

@@ -1,7 +1,7 @@
 //! Judges the types, the constants and the names of a text: tells the first demand, in the order of the text, that does not
 //! hold.
 //!
-//! It stands on the rules of `name_rules`, on the measures of structs of `struct_order` and the tables of `name_table`. It
+//! It stands on the rules of `name_rules`, on the measures of structs of `struct_order` and the sets of `indexmap`. It
 //! promises that an answer is Ok exactly where each demand holds, and else the refusal of the first that does not.
 //! Definitions: `specs/Judging`; the demands are those of `name_rules`, `specs/TypeDemands`.
 //!

@@ -1,14 +1,22 @@
-use Rattle.std.proofs.Common.{ap, sym, ◌∙◌, Some}
-use Rattle.std.specs.Prelude.{filter_map}
+use Rattle.std.proofs.Common.{ap, sym, subst, ◌∙◌, ◌++◌, map}
+use Rattle.std.specs.Prelude.{filter_map, flat_map}
 use Rattle.std.proofs.lemmas.Result.{on_ok_weaker}
 use Rattle.ir_syntax.specs.declared.item.Item.{Item}
 use Rattle.ir_syntax.specs.declared.item.WrittenVariable as the_variable
 use Rattle.ir_syntax.specs.declared.item.WrittenAlias as the_alias
 use Rattle.ir_syntax.specs.declared.item.Declaration as the_declaration
 use Rattle.ir_syntax.specs.declared.item.Definition as the_definition
-use Rattle.ir_syntax.specs.View.{item_view, body_view}
-use Rattle.name_rules.specs.Breaks.{struct_name, global_name, source_place, layout_place, triple_place}
-use Rattle.name_judge.proofs.SeenItem.{none_seen, global_seen, struct_seen, source_seen, layout_seen, triple_seen, on_ok_two}
+use Rattle.ir_instructions.specs.View.{block_view}
+use Rattle.ir_syntax.specs.Functions.{parameter_types}
+use Rattle.ir_syntax.specs.View.{item_view, body_view, variable_view, alias_view, head_view, parameter_view}
+use Rattle.name_rules.specs.Breaks.{struct_name, global_name, source_place, layout_place, triple_place, variable_demands, alias_demands, head_demands, item_demands}
+use Rattle.name_rules.specs.Demand.{place_of_name}
+use Rattle.name_rules.specs.FunctionDemands.{definition_demands}
+use Rattle.name_rules.specs.TypeDemands.{type_demands}
+use Rattle.type_judge.specs.Gathered.{known_of}
+use Rattle.type_judge.specs.Judging.{IsJudged}
+use Rattle.name_judge.specs.Seen.{earlier_of}
+use Rattle.name_judge.proofs.SeenItem.{none_seen, struct_seen, source_seen, layout_seen, triple_seen, on_ok_two, on_ok_always}
 use Rattle.name_judge.proofs.items.check_item.Goals as goal
 
 pub returns-in-SourceFilename-clause-seen : goal.returns-in-SourceFilename-clause-seen
@@ -37,55 +45,43 @@ returns-in-Struct-clause-seen c before are =
 
 pub returns-in-Variable-clause-seen : goal.returns-in-Variable-clause-seen
 returns-in-Variable-clause-seen c before are =
-    on_ok_weaker c.check_variable.result
-    (λ new.
-    global_seen c.args.seen.now c.check_variable.new.globals before (item_view c.args.item.now) c.deref.result.now.name
+    on_ok_always _
+    (none_seen c.args.seen.now before (item_view c.args.item.now)
     (ap (λ (x : Item). source_place (item_view x)) c.in-Variable.is)
     (ap (λ (x : Item). layout_place (item_view x)) c.in-Variable.is)
     (ap (λ (x : Item). triple_place (item_view x)) c.in-Variable.is)
     (ap (λ (x : Item). struct_name (item_view x)) c.in-Variable.is)
-    (ap (λ (x : Item). global_name (item_view x)) c.in-Variable.is ∙ ap (λ (v : the_variable.WrittenVariable). Some v.name) (sym c.deref.ensures))
-    are new)
-    (c.check_variable.ensures.seen (filter_map global_name before) are.globals)
+    are)
 
 pub returns-in-Alias-clause-seen : goal.returns-in-Alias-clause-seen
 returns-in-Alias-clause-seen c before are =
-    on_ok_weaker c.check_alias.result
-    (λ new.
-    global_seen c.args.seen.now c.check_alias.new.globals before (item_view c.args.item.now) c.deref-in-Alias.result.now.name
+    on_ok_always _
+    (none_seen c.args.seen.now before (item_view c.args.item.now)
     (ap (λ (x : Item). source_place (item_view x)) c.in-Alias.is)
     (ap (λ (x : Item). layout_place (item_view x)) c.in-Alias.is)
     (ap (λ (x : Item). triple_place (item_view x)) c.in-Alias.is)
     (ap (λ (x : Item). struct_name (item_view x)) c.in-Alias.is)
-    (ap (λ (x : Item). global_name (item_view x)) c.in-Alias.is ∙ ap (λ (v : the_alias.WrittenAlias). Some v.name) (sym c.deref-in-Alias.ensures))
-    are new)
-    (c.check_alias.ensures.seen (filter_map global_name before) are.globals)
+    are)
 
 pub returns-in-Declaration-clause-seen : goal.returns-in-Declaration-clause-seen
 returns-in-Declaration-clause-seen c before are =
-    on_ok_weaker c.check_declaration.result
-    (λ new.
-    global_seen c.args.seen.now c.check_declaration.new.globals before (item_view c.args.item.now) c.deref-in-Declaration.result.now.head.name
+    on_ok_always _
+    (none_seen c.args.seen.now before (item_view c.args.item.now)
     (ap (λ (x : Item). source_place (item_view x)) c.in-Declaration.is)
     (ap (λ (x : Item). layout_place (item_view x)) c.in-Declaration.is)
     (ap (λ (x : Item). triple_place (item_view x)) c.in-Declaration.is)
     (ap (λ (x : Item). struct_name (item_view x)) c.in-Declaration.is)
-    (ap (λ (x : Item). global_name (item_view x)) c.in-Declaration.is ∙ ap (λ (v : the_declaration.Declaration). Some v.head.name) (sym c.deref-in-Declaration.ensures))
-    are new)
-    (c.check_declaration.ensures.seen (filter_map global_name before) are.globals)
+    are)
 
 pub returns-in-Definition-clause-seen : goal.returns-in-Definition-clause-seen
 returns-in-Definition-clause-seen c before are =
-    on_ok_weaker c.check_function.result
-    (λ new.
-    global_seen c.args.seen.now c.check_function.new.globals before (item_view c.args.item.now) c.deref-in-Definition.result.now.head.name
+    on_ok_always _
+    (none_seen c.args.seen.now before (item_view c.args.item.now)
     (ap (λ (x : Item). source_place (item_view x)) c.in-Definition.is)
     (ap (λ (x : Item). layout_place (item_view x)) c.in-Definition.is)
     (ap (λ (x : Item). triple_place (item_view x)) c.in-Definition.is)
     (ap (λ (x : Item). struct_name (item_view x)) c.in-Definition.is)
-    (ap (λ (x : Item). global_name (item_view x)) c.in-Definition.is ∙ ap (λ (v : the_definition.Definition). Some v.head.name) (sym c.deref-in-Definition.ensures))
-    are new)
-    (c.check_function.ensures.seen (filter_map global_name before) are.globals)
+    are)
 
 pub returns-in-Attributes-clause-seen : goal.returns-in-Attributes-clause-seen
 returns-in-Attributes-clause-seen c before are =
@@ -94,7 +90,6 @@ returns-in-Attributes-clause-seen c before are =
     (ap (λ (x : Item). layout_place (item_view x)) c.in-Attributes.is)
     (ap (λ (x : Item). triple_place (item_view x)) c.in-Attributes.is)
     (ap (λ (x : Item). struct_name (item_view x)) c.in-Attributes.is)
-    (ap (λ (x : Item). global_name (item_view x)) c.in-Attributes.is)
     are
 
 pub returns-in-Metadata-clause-seen : goal.returns-in-Metadata-clause-seen
@@ -104,5 +99,36 @@ returns-in-Metadata-clause-seen c before are =
     (ap (λ (x : Item). layout_place (item_view x)) c.in-Metadata.is)
     (ap (λ (x : Item). triple_place (item_view x)) c.in-Metadata.is)
     (ap (λ (x : Item). struct_name (item_view x)) c.in-Metadata.is)
-    (ap (λ (x : Item). global_name (item_view x)) c.in-Metadata.is)
     are
+
+pub returns-in-Variable-clause-judged : goal.returns-in-Variable-clause-judged
+returns-in-Variable-clause-judged c before are e =
+    let known = known_of c.args.known.now in
+    let names = filter_map global_name before in
+    let same = e ∙ ap (λ (x : Item). earlier_of before (item_view x)) c.in-Variable.is ∙ ap (λ (v : the_variable.WrittenVariable). place_of_name names v.name.name) (sym c.deref.ensures) in
+    subst (λ (x : Item). IsJudged (item_demands known before (item_view x)) c.check_variable.result) (sym c.in-Variable.is)
+    (subst (λ (v : the_variable.WrittenVariable). IsJudged (variable_demands known names (variable_view v)) c.check_variable.result) c.deref.ensures (c.check_variable.ensures names same))
+
+pub returns-in-Alias-clause-judged : goal.returns-in-Alias-clause-judged
+returns-in-Alias-clause-judged c before are e =
+    let known = known_of c.args.known.now in
+    let names = filter_map global_name before in
+    let same = e ∙ ap (λ (x : Item). earlier_of before (item_view x)) c.in-Alias.is ∙ ap (λ (v : the_alias.WrittenAlias). place_of_name names v.name.name) (sym c.deref-in-Alias.ensures) in
+    subst (λ (x : Item). IsJudged (item_demands known before (item_view x)) c.check_alias.result) (sym c.in-Alias.is)
+    (subst (λ (v : the_alias.WrittenAlias). IsJudged (alias_demands known names (alias_view v)) c.check_alias.result) c.deref-in-Alias.ensures (c.check_alias.ensures names same))
+
+pub returns-in-Declaration-clause-judged : goal.returns-in-Declaration-clause-judged
+returns-in-Declaration-clause-judged c before are e =
+    let known = known_of c.args.known.now in
+    let names = filter_map global_name before in
+    let same = e ∙ ap (λ (x : Item). earlier_of before (item_view x)) c.in-Declaration.is ∙ ap (λ (v : the_declaration.Declaration). place_of_name names v.head.name.name) (sym c.deref-in-Declaration.ensures) in
+    subst (λ (x : Item). IsJudged (item_demands known before (item_view x)) c.check_declaration.result) (sym c.in-Declaration.is)
+    (subst (λ (v : the_declaration.Declaration). IsJudged (head_demands known names (head_view v.head) ++ flat_map (type_demands known) (parameter_types (map parameter_view v.formal.parameters.items))) c.check_declaration.result) c.deref-in-Declaration.ensures (c.check_declaration.ensures names same))
+
+pub returns-in-Definition-clause-judged : goal.returns-in-Definition-clause-judged
+returns-in-Definition-clause-judged c before are e =
+    let known = known_of c.args.known.now in
+    let names = filter_map global_name before in
+    let same = e ∙ ap (λ (x : Item). earlier_of before (item_view x)) c.in-Definition.is ∙ ap (λ (v : the_definition.Definition). place_of_name names v.head.name.name) (sym c.deref-in-Definition.ensures) in
+    subst (λ (x : Item). IsJudged (item_demands known before (item_view x)) c.check_function.result) (sym c.in-Definition.is)
+    (subst (λ (v : the_definition.Definition). IsJudged (head_demands known names (head_view v.head) ++ definition_demands known (map parameter_view v.parameters.items) (map block_view v.blocks.items)) c.check_function.result) c.deref-in-Definition.ensures (c.check_function.ensures names same))
