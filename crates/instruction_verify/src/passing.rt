@@ -20,8 +20,9 @@ use crate::written_types::own_types_suit;
 use constant_verify::Judge;
 use module_arena::{Ending, Function, Inst};
 
-/// Whether the rules 5 to 7 and 12 to 16 hold of an instruction, and the constants among its operands fit the types that are written
-/// before them. It tells no fault: where it is false, [`crate::judge_instruction_first`] and [`crate::judge_instruction_types`] do.
+/// Whether a look tells that the rules 5 to 7 and 12 to 16 hold of an instruction, and that the constants among its operands fit the
+/// types that are written before them. It may be false where all that holds: [`crate::judge_instruction_first`] and
+/// [`crate::judge_instruction_types`] judge it then.
 pub fn instruction_passes(judge: &Judge<'_>, instruction: &Inst) -> bool
     requires { HasInst judge.now instruction.now }
     ensures first { (values blocks : List LocalName) (function : Bytes) (number : ℕ) → result ≡ true → AllHold (first_demands (module_of judge.now) function number (instruction_in judge.now values blocks instruction.now)) }
@@ -44,8 +45,8 @@ pub fn instruction_passes(judge: &Judge<'_>, instruction: &Inst) -> bool
     first & (rules & fact.fits)
 }
 
-/// Whether the rules 5, 6, 17 and 18 hold of the end of a block. It tells no fault, and is false of each `switch`: there
-/// [`crate::judge_ending_first`] and [`crate::judge_ending_types`] tell what does not hold.
+/// Whether a look tells that the rules 5, 6, 17 and 18 hold of the end of a block. It may be false where all hold, as it is of each
+/// `switch`: [`crate::judge_ending_first`] and [`crate::judge_ending_types`] judge them then.
 pub fn ending_passes(judge: &Judge<'_>, function: &Function, ending: &Ending) -> bool
     requires returns { function.now.result < length judge.now.table.types }
     requires known { All (HasOperand judge.now) (end_operands_of ending.now) }

@@ -1,4 +1,4 @@
--- For `answers_ahead`: all that a lexer has yet to answer, as one list.
+-- For `skip_gap` of `Lexer`, and for `answers_ahead`: all that a lexer has yet to answer, as one list.
 use Rattle.std.specs.Prelude.{◌≡◌, ℕ, zero, suc, Bool, true, false, List, [], ◌∷◌, length, Option, Some, None, Result, Ok, Err}
 use Rattle.ir_base.specs.declared.place.Place.{Place}
 use Rattle.ir_lexer.specs.Lexer.{Lexing, rest, token_spelling, answer, after}

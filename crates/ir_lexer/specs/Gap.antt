@@ -1,4 +1,4 @@
--- For `next` of `Lexer`, and how the code reads: the separators and comments at the front of a text.
+-- For `next` and `skip_gap` of `Lexer`, and how the code reads: the separators and comments at the front of a text.
 use Rattle.std.specs.Prelude.{ℕ, suc, Bool, true, false, not, ◌||◌, cond, List, [], ◌∷◌}
 use Rattle.ir_lexer.specs.Class.{byte_class, is_blank, is_semicolon, is_line_feed}
 

@@ -1,4 +1,4 @@
--- For `new`, `next` and `spelling` of `Lexer`: a lexer in a text, and what it answers.
+-- For `new`, `next`, `next_plain`, `skip_gap` and `spelling` of `Lexer`: a lexer in a text, and what it answers.
 use Rattle.std.specs.Prelude.{◌≡◌, ℕ, ◌+◌, ◌-◌, ◌≤◌, ◌<◌, Bool, true, false, List, [], ◌∷◌, length, take, drop, Option, Some, None, Result, Ok, Err}
 use Rattle.ir_lexer.specs.Front.{next_token}
 use Rattle.ir_lexer.specs.Gap.{gap_length}

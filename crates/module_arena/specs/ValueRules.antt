@@ -77,7 +77,7 @@ arguments_suit variadic [] (a ∷ as_) = variadic
 arguments_suit variadic (t ∷ ts) [] = false
 arguments_suit variadic (t ∷ ts) (a ∷ as_) = same_type t a.ty && arguments_suit variadic ts as_
 
--- a void call has no result
+-- what is called is a pointer, the arguments suit its signature, and a void call has no result
 abbrev pub call_suits : Structs → Function → Option LocalName → Operation → Bool
 call_suits structs f result (Call signature callee arguments) =
     is_pointer_value structs f callee

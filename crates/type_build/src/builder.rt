@@ -21,8 +21,8 @@ use module_arena::{Arena, Const, ConstId, GlobalId};
 use std::alloc::{AllocError, Global};
 use type_table::{IrType, TypeId};
 
-/// An arena in the making. Equal types and equal constants are kept once: `types` and `constants` say where they may be,
-/// and each answer of theirs is looked up in the arena.
+/// An arena in the making. Equal types and equal constants are meant to be kept once, which no contract says: `types` and
+/// `constants` tell where they may be, and each answer of theirs is looked up in the arena.
 #[derive(Drop)]
 pub struct Builder {
     /// What is built so far.

@@ -16,7 +16,8 @@ use std::alloc::{AllocError, Global};
 use type_table::{IrType, TypeId, TypeList};
 
 impl Builder {
-    /// Where the type that the text writes is, if it is `ptr` or an integer type, and is there.
+    /// Where the type that the text writes is, as a look at `ptr` and the integer types tells. None says nothing: it may be there all the
+    /// same, and [`Builder::add_type`] finds or adds it.
     #[inline(always)]
     pub fn find_plain(&self, ty: &Type) -> Option<TypeId>
         ensures { IfSome result (λ id. IsType self.now.arena id (type_in (type_view ty.now))) }
