@@ -1,5 +1,5 @@
--- For `judge_instruction_first`, `judge_instruction_types`, `judge_ending_first` and `judge_ending_types`: an instruction and an end
--- of an arena as those of a module; and what is known of some operands, so that each is looked at once.
+-- For `judge_instruction_first`, `judge_instruction_types` and `instruction_passes`, and those of ends: an instruction and an end of an
+-- arena as those of a module; and what is known of some operands, so that each is looked at once.
 use Rattle.std.specs.Prelude.{ℕ, ◌<◌, true, ◌&&◌, List, All, length, ⊤}
 use Rattle.module_arena.specs.declared.instruction.Inst as the_inst
 use Rattle.module_arena.specs.declared.instruction.Ending as the_ending

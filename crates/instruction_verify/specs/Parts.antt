@@ -1,5 +1,5 @@
--- For `judge_instruction_first`, `judge_instruction_types`, `judge_ending_first` and `judge_ending_types`, and for `judge_last` and
--- `judge_ending_last`: what an instruction or an end is asked before the rules on phis and paths, and what behind them.
+-- For `judge_instruction_first`, `judge_instruction_types` and `instruction_passes`, for `judge_last`, `operation_passes` and
+-- `types_pass`, and for those of ends: what an instruction or an end is asked before the rules on phis and paths, and what behind them.
 use Rattle.std.specs.Prelude.{ℕ, Bool, true, false, ◌&&◌, List, [], ◌∷◌, is_some, option_to_list}
 use Rattle.module_arena.specs.InstructionRules.{operands_take_no_intrinsic, callee_takes_no_intrinsic, operation_types_suit, operands_suit, operation_alignment_suits, other_types_suit, result_suits}
 use Rattle.module_arena.specs.declared.constant.Const.{Const}

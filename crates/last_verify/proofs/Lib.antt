@@ -2,6 +2,7 @@ pub mod Listed
 pub mod TypesWritten
 pub mod CalleesTold
 pub mod OperandsTold
+pub mod LastHeld
 pub mod CallsTold
 pub mod Behind
 pub mod GivenTold

@@ -1,4 +1,5 @@
--- For `judge_last`: the ids that an instruction may have, and the test of calls, by the ids of an arena.
+-- For `operation_passes`, `types_pass` and `judge_last`, and how the code reads: the ids that an instruction may have, and the test of
+-- calls, by the ids of an arena.
 use Rattle.std.specs.Prelude.{ℕ, ◌<◌, Bool, true, ◌&&◌, List, [], ◌∷◌, All, length}
 use Rattle.type_table.specs.Types.{Types, tree}
 use Rattle.module_arena.specs.declared.instruction.Inst.{Inst}

@@ -1,4 +1,5 @@
--- Says how the code of `judge_last` and `judge_ending_last` reads: what is asked before and behind the rules 12 to 16.
+-- For `operation_passes`, and how the code of `judge_last` and `judge_ending_last` reads: what is asked before and behind the rules 12
+-- to 16.
 use Rattle.std.specs.Prelude.{ℕ, ◌&&◌, List, [], ◌∷◌}
 use Rattle.module_arena.specs.Module.{Function, Instruction, Module, Operand}
 use Rattle.module_arena.specs.Operations.{callee, operands}

@@ -1,5 +1,5 @@
--- For `local_types`, `judge_last` and `judge_ending_last`: values by the ids of an arena. What a local value is called plays no part
--- but for its type.
+-- For `local_types`, `has_type`, `operation_passes`, `types_pass`, `ending_types_pass`, `judge_last` and `judge_ending_last`, and how
+-- the code reads: values by the ids of an arena. What a local value is called plays no part but for its type.
 use Rattle.std.specs.Prelude.{◌≡◌, ℕ, ◌<◌, ◌&&◌, Bool, true, false, List, [], ◌∷◌, All, ⊤, length, slice_index_or, Option, Some, None}
 use Rattle.type_table.specs.Tree.{Tree, int, ptr}
 use Rattle.type_table.specs.Types.{Types, tree, trees, structs}
@@ -90,7 +90,7 @@ type_in t types id = tree_of t (slice_index_or types id known.Nothing)
 abbrev pub AreTypes : Types → List LocalType → Type 0
 AreTypes t types = All (IsOf t) types
 
--- the list has the type of each parameter and result of a function, by the names of these
+-- as far as the list goes, it has the type of each parameter and result of a function, by the names of these
 abbrev pub AreLocalTypes : Lists → meant.Function → List meant.LocalName → List LocalType → Type 0
 AreLocalTypes a f values types =
     (id : ℕ) → id < length types → local_type (structs a.table) f (slice_index_or values id (meant.LocalName.Numbered 0)) ≡ type_in a.table types id

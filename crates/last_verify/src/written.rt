@@ -42,8 +42,7 @@ fn has_local_type(judge: &Judge<'_>, value_types: &[LocalType], ty: TypeId, id: 
     }
 }
 
-/// Whether the value, where it is a local one, has the type. The list has the type of each parameter and result of the function, by its
-/// number.
+/// Whether the value is a constant, or has the type by the list, which has the types of parameters and results by their numbers.
 #[inline(always)]
 pub fn has_type(judge: &Judge<'_>, value_types: &[LocalType], ty: TypeId, value: Value) -> bool
     requires types { AreTypes judge.now.table value_types.now }

@@ -224,7 +224,7 @@ fn check_parameters<'a>(
 /// The parameters and the body of a definition, in the order of the text: tells the first demand that does not hold. The
 /// tables may be those of any function before.
 /// Errors: a local that is called twice or has a wrong number, a name of nothing, a constant out of range, a type that is
-/// too deep or too large (LangRef, "Identifiers").
+/// too deep or too large (LangRef, "Identifiers"); or want of memory.
 pub fn check_definition<'a>(
     alloc: Global,
     known: &Known,

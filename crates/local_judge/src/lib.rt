@@ -1,8 +1,9 @@
 //! Judges the functions that a text defines: tells the first demand, in the order of the text, that does not hold.
 //!
-//! It stands on the judges of types and constants of `type_judge` and on the rules of `name_rules`. It promises that an
-//! answer is Ok exactly where each demand holds, and else the refusal of the first that does not. Definitions:
-//! `specs/Names`, `specs/Calling`, `specs/Literals`; the demands are those of `name_rules`, `specs/FunctionDemands`.
+//! It stands on the judges of types and constants of `type_judge` and on the rules of `name_rules`. It promises, want
+//! of memory aside, that an answer is Ok exactly where each demand holds, and else the refusal of the first that does not.
+//! Definitions: `specs/Names`, `specs/Calling`, `specs/Literals`; the demands are those of `name_rules`,
+//! `specs/FunctionDemands`.
 //!
 //! ```
 //! // `definition` is the one item of the text `define i32 @f(i32 %x) { ret i32 %y }`.

@@ -27,7 +27,7 @@ use ir_instructions::{
 use ir_terminals::Integer;
 use type_judge::Known;
 
-/// Whether nothing is asked of the type.
+/// Whether a look tells that nothing is asked of the type.
 #[inline(always)]
 pub(crate) fn type_passes(ty: &Type) -> bool
     ensures { (known : demands.Known) → result ≡ true → Hold (type_demands known (type_view ty.now)) }
@@ -177,7 +177,7 @@ fn store_passes(known: &Known, locals: &FunctionLocals, store: &Store) -> bool
     alignment_passes(&store.alignment)
 }
 
-/// No count of an alloca is written.
+/// No count of an alloca is written, as a look tells.
 #[inline(always)]
 fn count_passes(count: &Option<Box<TypedValue>>) -> bool
     ensures { (known : demands.Known) → (all : Locals) → result ≡ true → Hold (count_demands known all (option_map (λ b. typed_value_view b.value) count.now)) }
@@ -215,7 +215,7 @@ fn address_passes(known: &Known, locals: &FunctionLocals, address: &Address) -> 
     operands_pass(known, locals, &address.operands)
 }
 
-/// A call writes no types of parameters.
+/// A call writes no types of parameters, as a look tells.
 #[inline(always)]
 fn signature_passes(signature: &Option<SignatureTypes>) -> bool
     ensures { (known : demands.Known) → (all : Locals) → result ≡ true → Hold (signature_demands known all (option_map signature_view signature.now)) }

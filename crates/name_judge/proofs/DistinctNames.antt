@@ -3,6 +3,7 @@ use Rattle.std.specs.Prelude.{◌≡◌, refl, ℕ, zero, suc, ◌+◌, ◌<◌,
 use Rattle.std.specs.List.{cons_option}
 use Rattle.std.proofs.Common.{ap, sym, subst, ◌∙◌, arith, get_or, take, drop}
 use Rattle.ir_base.specs.declared.place.Place.{Place}
+use Rattle.ir_tables.specs.Table.{is_distinct}
 use Rattle.ir_terminals.specs.declared.values.PlacedName.{PlacedName}
 use Rattle.ir_syntax.specs.declared.item.Item.{Item}
 use Rattle.ir_syntax.specs.Tree.{ItemTree}
@@ -11,7 +12,6 @@ use Rattle.module_arena.specs.Module.{Bytes}
 use Rattle.name_rules.specs.Breaks.{global_name, global_names, known_in}
 use Rattle.name_rules.specs.Demand.{place_of_name}
 use Rattle.name_rules.specs.TypeDemands.{Known, has_name}
-use Rattle.type_judge.specs.Gathered.{are_distinct}
 use Rattle.type_judge.proofs.NamesGathered.{distinct_there, globals-append}
 use Rattle.name_table.specs.Entries.{value_of}
 use Rattle.name_judge.specs.Seen.{AreKept, earlier_of, place_among}
@@ -27,10 +27,10 @@ place_none (n ∷ names) name e = by (bytes_eq n.name name) e (place_none names 
     by false e rest = rest e
 
 -- where the names of all are distinct, no global before an item has its name
-pub none_earlier : (before : List ItemTree) (item : ItemTree) (rest : List ItemTree) → are_distinct (global_names (before ++ item ∷ rest)) ≡ true → None ≡ earlier_of before item
-none_earlier before item rest e = by (global_name item) (subst (λ (names : List Bytes). are_distinct names ≡ true) (globals-append before (item ∷ rest)) e)
+pub none_earlier : (before : List ItemTree) (item : ItemTree) (rest : List ItemTree) → is_distinct bytes_eq (global_names (before ++ item ∷ rest)) ≡ true → None ≡ earlier_of before item
+none_earlier before item rest e = by (global_name item) (subst (λ (names : List Bytes). is_distinct bytes_eq names ≡ true) (globals-append before (item ∷ rest)) e)
   where
-    by : (o : Option PlacedName) → are_distinct (global_names before ++ map (λ (n : PlacedName). n.name) (cons_option o (filter_map global_name rest))) ≡ true → None ≡ place_among (filter_map global_name before) o
+    by : (o : Option PlacedName) → is_distinct bytes_eq (global_names before ++ map (λ (n : PlacedName). n.name) (cons_option o (filter_map global_name rest))) ≡ true → None ≡ place_among (filter_map global_name before) o
     by None q = refl
     by (Some name) q = sym (place_none (filter_map global_name before) name.name (distinct_there (global_names before) name.name (global_names rest) q))
 
@@ -48,8 +48,8 @@ items_split (y ∷ items) (suc i) x h e =
 
 -- the names of all are distinct, where those of what the text defines are
 pub distinct_at : (known : Known) (slice items : List Item) (i : ℕ) (x : Item) → known ≡ known_in (items_view items) → slice ≡ items → i < length slice → x ≡ get_or slice i x
-    → are_distinct known.globals ≡ true → are_distinct (global_names (items_view (take i slice) ++ item_view x ∷ items_view (drop (i + 1) slice))) ≡ true
+    → is_distinct bytes_eq known.globals ≡ true → is_distinct bytes_eq (global_names (items_view (take i slice) ++ item_view x ∷ items_view (drop (i + 1) slice))) ≡ true
 distinct_at known slice items i x k s h e told =
-    ap (λ (trees : List ItemTree). are_distinct (global_names trees)) (sym (items_split slice i x h e) ∙ ap items_view s)
-    ∙ ap (λ (known : Known). are_distinct known.globals) (sym k)
+    ap (λ (trees : List ItemTree). is_distinct bytes_eq (global_names trees)) (sym (items_split slice i x h e) ∙ ap items_view s)
+    ∙ ap (λ (known : Known). is_distinct bytes_eq known.globals) (sym k)
     ∙ told

@@ -1,13 +1,13 @@
 //! Which variable, alias or function before an item has its name.
 #![tactic(auto)]
 
-ghost use Rattle.std.specs.Prelude.{◌≡◌, IfOk, OnOk, List, true, false, [], ◌∷◌, ◌++◌, filter_map};
+ghost use Rattle.std.specs.Prelude.{◌≡◌, IfOk, OnOk, List, true, false, [], ◌∷◌, ◌++◌, bytes_eq, filter_map};
+ghost use Rattle.ir_tables.specs.Table.{is_distinct};
 ghost use Rattle.ir_syntax.specs.Tree.{ItemTree};
 ghost use Rattle.ir_syntax.specs.View.{item_view};
 ghost use Rattle.ir_terminals.specs.declared.values.PlacedName.{PlacedName};
 ghost use Rattle.name_rules.specs.Breaks.{global_name, global_names};
 ghost use Rattle.name_rules.specs.Demand.{is_first, place_of_name};
-ghost use Rattle.type_judge.specs.Gathered.{are_distinct};
 ghost use Rattle.type_judge.specs.Judging.{IsJudged};
 ghost use Rattle.name_judge.specs.Seen.{AreFirst, AreKept, earlier_of};
 
@@ -51,13 +51,13 @@ fn first_of_item<'a>(
 }
 
 /// The place of the first global with the name of the item, where one stood before it. Where no two globals of the text have
-/// the same name there is none, and no name is kept.
+/// the same name there is none, and it does not matter what the table has.
 pub(crate) fn earlier_global<'a>(
     distinct: bool,
     seen: &mut NameTable<'a, Place>,
     item: &'a Item,
 ) -> Result<Option<Place>, AllocError>
-    ensures earlier { (before rest : List ItemTree) → AreKept distinct seen.old before → (distinct ≡ true → are_distinct (global_names (before ++ item_view item.now ∷ rest)) ≡ true) → IfOk result (λ earlier. earlier ≡ earlier_of before (item_view item.now)) }
+    ensures earlier { (before rest : List ItemTree) → AreKept distinct seen.old before → (distinct ≡ true → is_distinct bytes_eq (global_names (before ++ item_view item.now ∷ rest)) ≡ true) → IfOk result (λ earlier. earlier ≡ earlier_of before (item_view item.now)) }
     ensures kept { (before : List ItemTree) → AreKept distinct seen.old before → OnOk result (AreKept distinct seen.new (before ++ item_view item.now ∷ [])) }
 {
     if distinct {

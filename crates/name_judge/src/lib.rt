@@ -1,8 +1,9 @@
 //! Judges the items of a text by the rules of names and numbers.
 //!
 //! It stands on the judges of types, constants and names of `type_judge`, on `local_judge` for the bodies of functions, and
-//! on `struct_ends` for structs that contain themselves. It promises that items are let through exactly where they break no
-//! rule, and that else the first break is told: too many of a kind, else the first demand in the order of the text.
+//! on `struct_ends` for structs that contain themselves. It promises, want of memory aside, that items are let through exactly
+//! where they break no rule, and that else the first break is told: too many of a kind, else the first demand in the order of
+//! the text.
 //! Definitions: `specs/Seen`; the breaks are those of `name_rules`, `specs/Breaks`.
 //!
 //! ```
@@ -31,7 +32,13 @@ use items::check_items;
 use name_rules::ResolveFault;
 use std::alloc::Global;
 
-/// Judges the items of a text by the rules of names and numbers: tells the first break.
+/// Judges the items of a text by the rules of names and numbers, and tells the first break.
+///
+/// There may be at most 2^24 items, parameters, blocks and instructions in all, as those of a text that is read are.
+///
+/// # Errors
+///
+/// Exactly the first break, where there is one; or want of memory.
 pub fn judge(alloc: Global, items: &Items) -> Result<(), ResolveFault>
     requires few { counted (items_view items.now) ≤ most_counted }
     ensures { Tells (first_break (items_view items.now)) result }

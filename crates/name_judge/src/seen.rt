@@ -32,7 +32,7 @@ pub(crate) fn nothing_seen<'a>(alloc: Global) -> Seen<'a>
     }
 }
 
-/// Keeps the place, unless such a text stood before.
+/// Keeps the place; where such a text stood before, that is told.
 pub(crate) fn check_first(seen: &mut Option<Place>, place: Place) -> Result<(), ResolveFault>
     ensures judged { IsJudged (is_first place seen.old) result }
     ensures seen { OnOk result (seen.old ≡ None) }
@@ -45,7 +45,7 @@ pub(crate) fn check_first(seen: &mut Option<Place>, place: Place) -> Result<(), 
     Ok(())
 }
 
-/// Keeps the name with its place, unless it stood before.
+/// Keeps the name with its place; where it stood before, that is told.
 pub(crate) fn check_new<'a>(
     seen: &mut NameTable<'a, Place>,
     name: &'a PlacedName,

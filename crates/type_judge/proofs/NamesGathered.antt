@@ -2,20 +2,19 @@
 use Rattle.std.specs.Prelude.{◌≡◌, refl, Bool, true, false, not, ◌||◌, ◌&&◌, List, [], ◌∷◌, ◌++◌, map, filter_map, bytes_eq, if◌then◌else◌}
 use Rattle.std.specs.Borrow.{Bor}
 use Rattle.std.specs.List.{list_any}
-use Rattle.std.proofs.Common.{ap, sym, subst, ◌∙◌, append_assoc}
-use Rattle.std.proofs.Math.Bool.{and_assoc, and-true}
+use Rattle.std.proofs.Common.{ap, sym, subst, ◌∙◌}
 use Rattle.std.proofs.lemmas.Bool.{and_parts}
-use Rattle.std.proofs.lemmas.List.{append-nil}
 use Rattle.std.proofs.lemmas.Slice.Eq.{bytes_eq-Decides}
 use Rattle.std.proofs.lemmas.List.Folds.{list_any-append}
 use Rattle.std.proofs.lemmas.List.Elements.{filter_map-append}
 use Rattle.indexmap.specs.IndexSet.{insert_key}
+use Rattle.ir_tables.specs.Table.{is_distinct}
 use Rattle.ir_terminals.specs.declared.values.PlacedName.{PlacedName}
 use Rattle.ir_syntax.specs.Tree.{ItemTree}
 use Rattle.module_arena.specs.Module.{Bytes}
 use Rattle.name_rules.specs.Breaks.{global_name}
 use Rattle.name_rules.specs.TypeDemands.{has_name}
-use Rattle.type_judge.specs.Gathered.{AreGlobals, AreNames, are_distinct, are_new, global_names}
+use Rattle.type_judge.specs.Gathered.{AreGlobals, AreNames, global_names}
 use Rattle.type_judge.specs.declared.known.GlobalNames.{GlobalNames}
 
 pub same_both : (a b : Bytes) → bytes_eq a b ≡ bytes_eq b a
@@ -58,25 +57,34 @@ names-append (x ∷ xs) ys = ap (λ rest. x.name ∷ rest) (names-append xs ys)
 pub globals-append : (xs ys : List ItemTree) → global_names (xs ++ ys) ≡ global_names xs ++ global_names ys
 globals-append xs ys = ap (map (λ (n : PlacedName). n.name)) (filter_map-append global_name xs ys) ∙ names-append (filter_map global_name xs) (filter_map global_name ys)
 
-not_there : (b : Bool) → not b ≡ true → b ≡ false
-not_there true e = absurd cc
-not_there false e = refl
-
--- with one name more each is new where it was before, and that one is
-new_more : (before names : List Bytes) (name : Bytes) → are_new before (names ++ name ∷ []) ≡ (are_new before names && not (has_name (before ++ names) name))
-new_more before [] name = and-true (not (has_name before name)) ∙ ap (λ ns. not (has_name ns name)) (sym (append-nil before))
-new_more before (n ∷ names) name =
-    ap (λ b. not (has_name before n) && b) (new_more (before ++ n ∷ []) names name ∙ ap (λ ns. are_new (before ++ n ∷ []) names && not (has_name ns name)) (append_assoc before (n ∷ []) names))
-    ∙ sym (and_assoc (not (has_name before n)) (are_new (before ++ n ∷ []) names) (not (has_name (before ++ n ∷ names) name)))
-
--- one among names that are new is not among those before it
-new_there : (before front : List Bytes) (name : Bytes) (rest : List Bytes) → are_new before (front ++ name ∷ rest) ≡ true → has_name (before ++ front) name ≡ false
-new_there before [] name rest e = ap (λ ns. has_name ns name) (append-nil before) ∙ not_there _ (and_parts _ _ e).0
-new_there before (n ∷ front) name rest e = ap (λ ns. has_name ns name) (sym (append_assoc before (n ∷ []) front)) ∙ new_there (before ++ n ∷ []) front name rest (and_parts _ _ e).1
+-- two names are apart, where the first is not among some with the second
+apart : (a b r : Bool) → not (a || (b || r)) ≡ true → b ≡ false
+apart true b r e = absurd cc
+apart false true r e = absurd cc
+apart false false r e = refl
 
 -- where names are distinct, none is among those before it
-pub distinct_there : (front : List Bytes) (name : Bytes) (rest : List Bytes) → are_distinct (front ++ name ∷ rest) ≡ true → has_name front name ≡ false
-distinct_there front name rest e = new_there [] front name rest e
+pub distinct_there : (front : List Bytes) (name : Bytes) (rest : List Bytes) → is_distinct bytes_eq (front ++ name ∷ rest) ≡ true → has_name front name ≡ false
+distinct_there [] name rest e = refl
+distinct_there (n ∷ front) name rest e =
+    let p = and_parts (not (list_any (bytes_eq n) (front ++ name ∷ rest))) (is_distinct bytes_eq (front ++ name ∷ rest)) e in
+    let other = apart (list_any (bytes_eq n) front) (bytes_eq n name) (list_any (bytes_eq n) rest) (ap not (sym (list_any-append (bytes_eq n) front (name ∷ rest))) ∙ p.0) in
+    (λ j. other j || distinct_there front name rest p.1 j)
+
+-- of one name that is none of the others, of these, and of one more behind them
+with_one_more : (a b d h : Bool) → (not (a || (b || false)) && (d && not h)) ≡ ((not a && d) && not (b || h))
+with_one_more true b d h = refl
+with_one_more false true true h = refl
+with_one_more false true false h = refl
+with_one_more false false true h = refl
+with_one_more false false false h = refl
+
+-- with one name more they are distinct where they were before, and that one is new
+distinct_more : (names : List Bytes) (name : Bytes) → is_distinct bytes_eq (names ++ name ∷ []) ≡ (is_distinct bytes_eq names && not (has_name names name))
+distinct_more [] name = refl
+distinct_more (n ∷ names) name =
+    (λ j. not (list_any-append (bytes_eq n) names (name ∷ []) j) && distinct_more names name j)
+    ∙ with_one_more (list_any (bytes_eq n) names) (bytes_eq n name) (is_distinct bytes_eq names) (has_name names name)
 
 -- one name more, and whether it is new
 pub globals_more : (old new : GlobalNames) (names : List Bytes) (name : Bytes) (key : Bor Bytes) (is_new : Bool) → key.now ≡ name → AreGlobals old names
@@ -85,5 +93,5 @@ pub globals_more : (old new : GlobalNames) (names : List Bytes) (name : Bytes) (
 globals_more old new names name key is_new same are new_is told put = subst (λ (n : Bytes). AreGlobals new (names ++ n ∷ [])) same
     (record {
       names = rw put (names_more old.names.keys names key are.names);
-      distinct = told ∙ (λ j. are.distinct j && (new_is ∙ ap not (are.names.each key.now)) j) ∙ sym (new_more [] names key.now);
+      distinct = told ∙ (λ j. are.distinct j && (new_is ∙ ap not (are.names.each key.now)) j) ∙ sym (distinct_more names key.now);
     })

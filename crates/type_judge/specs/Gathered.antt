@@ -1,7 +1,8 @@
 -- For `Known::of_items`, and all calls that are handed a `Known`: what a text defines, as it is gathered.
-use Rattle.std.specs.Prelude.{◌≡◌, Bool, true, not, ◌&&◌, List, [], ◌∷◌, ◌++◌, bytes_eq}
+use Rattle.std.specs.Prelude.{◌≡◌, List, bytes_eq}
 use Rattle.std.specs.Borrow.{Bor}
 use Rattle.std.specs.List.{list_any}
+use Rattle.ir_tables.specs.Table.{is_distinct}
 use Rattle.ir_syntax.specs.View.{items_view}
 use Rattle.module_arena.specs.Module.{Bytes}
 use Rattle.name_rules.specs.Breaks.{known_in}
@@ -16,19 +17,10 @@ use Rattle.type_judge.specs.declared.known.GlobalNames.{GlobalNames}
 pub record AreNames (keys : List (Bor Bytes)) (names : List Bytes) : Type 0 where
   pub each : (name : Bytes) → list_any (λ (key : Bor Bytes). bytes_eq name key.now) keys ≡ has_name names name
 
--- behind these names each is new
-abbrev pub are_new : List Bytes → List Bytes → Bool
-are_new before [] = true
-are_new before (name ∷ more) = not (has_name before name) && are_new (before ++ name ∷ []) more
-
--- no two names are the same
-abbrev pub are_distinct : List Bytes → Bool
-are_distinct names = are_new [] names
-
 -- these are the names, and it is told whether they are distinct
 pub record AreGlobals (globals : GlobalNames) (all : List Bytes) : Type 0 where
   pub names : AreNames globals.names.keys all
-  pub distinct : globals.distinct ≡ are_distinct all
+  pub distinct : globals.distinct ≡ is_distinct bytes_eq all
 
 -- what the items define
 abbrev pub known_of : the_known.Known → Known

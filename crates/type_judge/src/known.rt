@@ -2,14 +2,15 @@
 //! functions.
 #![tactic(auto, using(crate::proofs::Parts::judged_front, crate::proofs::Parts::judged_rest, crate::proofs::Parts::judged_stop, crate::proofs::Parts::judged_next))]
 
-ghost use Rattle.std.specs.Prelude.{◌≡◌, ◌<◌, ◌^◌, length, IfOk, OnOk, List, ℕ, [], ◌∷◌, ◌++◌, option_copied};
+ghost use Rattle.std.specs.Prelude.{◌≡◌, ◌<◌, ◌^◌, length, IfOk, OnOk, List, ℕ, [], ◌∷◌, ◌++◌, bytes_eq, option_copied};
+ghost use Rattle.ir_tables.specs.Table.{is_distinct};
 ghost use Rattle.ir_constants.specs.View.{type_view};
 ghost use Rattle.ir_syntax.specs.View.{item_view, items_view};
 ghost use Rattle.name_rules.specs.Breaks.{known_in, global_name};
 ghost use Rattle.name_rules.specs.Measured.{names_of};
 ghost use Rattle.name_rules.specs.ModuleOf.{structs_in};
 ghost use Rattle.name_rules.specs.TypeDemands.{has_name, measured};
-ghost use Rattle.type_judge.specs.Gathered.{AreGlobals, IsKnown, are_distinct, global_names, known_of};
+ghost use Rattle.type_judge.specs.Gathered.{AreGlobals, IsKnown, global_names, known_of};
 
 use indexmap::IndexSet;
 use ir_constants::Type;
@@ -130,7 +131,7 @@ impl<'a> Known<'a> {
     /// Whether no two variables, aliases or functions have the same name.
     pub fn are_distinct(&self) -> bool
         requires { IsKnown self.now }
-        ensures { result ≡ are_distinct (known_of self.now).globals }
+        ensures { result ≡ is_distinct bytes_eq (known_of self.now).globals }
     {
         self.globals.distinct
     }

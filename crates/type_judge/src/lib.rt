@@ -2,7 +2,8 @@
 //! hold.
 //!
 //! It stands on the rules of `name_rules`, on the measures of structs of `struct_order` and the sets of `indexmap`. It
-//! promises that an answer is Ok exactly where each demand holds, and else the refusal of the first that does not.
+//! promises, want of memory aside, that an answer is Ok exactly where each demand holds, and else the refusal of the first that
+//! does not.
 //! Definitions: `specs/Judging`; the demands are those of `name_rules`, `specs/TypeDemands`.
 //!
 //! ```

@@ -4,6 +4,7 @@ use Rattle.std.proofs.lemmas.Bool.{and_parts}
 use Rattle.module_arena.specs.Known.{HasOperand}
 use Rattle.module_arena.specs.declared.instruction.Operand.{Operand}
 use Rattle.last_verify.specs.ValuesById.{has_own_type}
+use Rattle.last_verify.proofs.LastHeld.{last_held}
 use Rattle.last_verify.proofs.Listed.{operands_known}
 use Rattle.last_verify.proofs.passing.types_pass.Goals as goal
 
@@ -20,4 +21,6 @@ pub returns-clause-last : goal.returns-clause-last
 returns-clause-last c f values blocks number told e =
     let p = and_parts _ _ e in
     let listed = ap (λ (os : List Operand). list_all (has_own_type c.args.judge.now.table c.args.value_types.now) os) (sym c.requires.gathered) in
-    c.operation_passes.ensures.last f values blocks number told (listed ∙ sym c.all_have-typed.ensures ∙ p.1) p.0
+    last_held c.args.judge.now f values blocks c.args.value_types.now number c.args.instruction.now c.requires.known told (listed ∙ sym c.all_have-typed.ensures ∙ p.1)
+    (c.operation_passes.ensures.types values blocks f.name number p.0)
+    (c.operation_passes.ensures.calls f values blocks number told p.0)

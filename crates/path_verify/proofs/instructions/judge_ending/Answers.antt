@@ -23,5 +23,5 @@ returns-then-passes c block named ended stands =
     subst (λ (ts : List LocalType). AreLocalTypes a (function_in a f) (names_of f) ts) (sym c.deref.ensures.value) c.requires.ready.types_told in
     end_last_judges (module_of a) (function_in a f) block n (block_named f c.args.site.now.block) named (ending_in a f c.args.ending.now) ended c.args.site.now.before stands (Ok tt)
     (c.ending_types_pass-typed.ensures.first (names_of f) (blocks_named f) n passes.0)
-    (c.ending_uses_pass.ensures a c.args.ending.now listed c.requires.ready.reflects passes.1)
+    (c.ending_uses_pass.ensures.held a c.args.ending.now listed c.requires.ready.reflects passes.1)
     (c.ending_types_pass-typed.ensures.last (names_of f) (blocks_named f) n types passes.0)

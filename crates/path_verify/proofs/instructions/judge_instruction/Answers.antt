@@ -30,5 +30,5 @@ returns-then-passes-clause-judged c block named behind =
     last_judges (module_of a) (function_in a f) block c.args.site.now.before n i (block_named f c.args.site.now.block) named (Ok tt)
     (c.types_pass-typed.ensures.first (names_of f) (blocks_named f) f.name n passes.0)
     (no_phi_suits (function_in a f) block c.args.site.now.before i.operation (sym (c.is_phi.ensures a f) ∙ c.if-not-is_phi.true), tt)
-    (c.uses_pass.ensures a ready.reflects passes.1)
+    (c.uses_pass.ensures.held a ready.reflects passes.1)
     (c.types_pass-typed.ensures.last (function_in a f) (names_of f) (blocks_named f) n types passes.0)
