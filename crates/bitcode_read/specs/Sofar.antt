@@ -50,8 +50,10 @@ use Rattle.bitcode_read.specs.declared.sofar.Sofar.{Sofar}
 -- No entry is known yet, and the arena has nothing. What is declared and foreseen of the whole block is declared and foreseen of what is
 -- left.
 pub record IsEarly (texts : Texts) (all : Records) (known : ModuleAhead) (m : ModuleReader) (b : Sofar) (s : records.Sofar) (rest : Records) : Type 0 where
+  -- the blocks in front alone
   pub early : s.last < 5
   pub numbers : s.k ≡ records.known_at_first texts all
+  -- no entry was read
   pub no_variables : s.variables ≡ []
   pub no_functions : s.functions ≡ []
   pub no_aliases : s.aliases ≡ []
@@ -59,8 +61,10 @@ pub record IsEarly (texts : Texts) (all : Records) (known : ModuleAhead) (m : Mo
   pub none_defined : b.defined.items ≡ []
   pub no_targets : b.targets.items ≡ []
   pub no_bodies : b.bodies.items ≡ []
+  -- nothing is in the arena
   pub over : IsOver no_lists m.growing
   pub gathered : AreGathered known.named known.structs (names_in texts (first_types rest))
+  -- what is left declares and foresees what all of it does
   pub declares : (types : ℕ) (final a : Lists) (names : List (List the_local.LocalName))
       → Declares texts types final names a all
       → Declares texts types final names a rest
@@ -137,25 +141,32 @@ pub record AreCalled (a : Lists) (s : records.Sofar) : Type 0 where
 
 -- The arena has these entries, in front, and those that the records declare that are left. Constants alone were added since.
 pub record IsLate (m : ModuleReader) (b : Sofar) (s : records.Sofar) (rest : Records) : Type 0 where
+  -- the types were read; aliases come last
   pub late : 5 ≤ s.last
   pub alone : s.last < 8 → s.aliases ≡ []
+  -- the arena with all that is declared, that of what was read so far, and how far constants had grown
   pub base : Lists
   pub a : Lists
   pub begun : Growing
   pub over : IsOver base begun
   pub grows : Grows begun m.growing
+  -- names and types of the arena
   pub good : IsGood base
   pub good_types : tables.IsGood base.table
   pub distinct : AreDistinct base
   pub types : s.k.types ≡ trees base.table
   pub structs_are : s.k.structs ≡ structs base.table
+  -- what is left declares the other entries
   pub later : List (List the_local.LocalName)
   pub declares : Declares s.texts (length s.k.types) base later a rest
+  -- what was read is declared, and holds nothing yet
   pub unset : AreUnset a
   pub untargeted : AreUntargeted a
   pub undefined : AreUndefined a
   pub called : AreCalled a s
+  -- the bodies that are left are foreseen
   pub foresees : Foresees s.texts s.k (length s.k.types) (counts_due s.functions) (drop (length b.bodies.items) b.ahead.items) rest
+  -- the entries that were read are those that are meant
   pub variables : AreVariables base m.growing (AreDeclared base m.globals s.k) a.variables b.initialisers.items s.variables
   pub aliases : AreAliases base m.growing (AreDeclared base m.globals s.k) a.aliases b.targets.items s.aliases
   pub functions : AreFunctions base m.growing (AreDeclared base m.globals s.k) later a.functions b.defined.items b.bodies.items

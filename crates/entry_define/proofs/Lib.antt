@@ -2,4 +2,4 @@ pub mod Changed
 pub mod Filled
 pub mod Initialisers
 pub mod Bodies
-pub mod Next
+pub mod NextEntry

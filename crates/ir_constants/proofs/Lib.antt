@@ -1,6 +1,6 @@
 pub mod Grammar
 pub mod Depth
 pub mod Leaves
-pub mod Next
+pub mod BehindComma
 pub mod Gives
 pub mod Formed

@@ -10,6 +10,7 @@ use Rattle.ir_printf.specs.declared.pattern.PatternPiece.{PatternPiece}
 use Rattle.ir_printf.specs.declared.pattern.PatternPiece.TheVariants as piece
 use Rattle.ir_printf.specs.declared.pattern.TheConstants.{MOST}
 use Rattle.ir_printf.specs.declared.pattern.BadFormat.{BadFormat}
+use Rattle.ir_printf.specs.Printed.{is_number}
 
 -- ---- what stands behind the `%` of a conversion, from left to right
 
@@ -82,13 +83,6 @@ precision_in (dot ∷ digits) = elim (small_number digits) [ None ↦ None | Som
 abbrev pub has_byte : ℕ → List ℕ → Bool
 has_byte byte bytes = list_any (λ b. b == byte) bytes
 
--- the conversions that write numbers
-abbrev pub is_of_number : ConversionKind → Bool
-is_of_number kind.Char = false
-is_of_number kind.Bytes = false
-is_of_number kind.Percent = false
-is_of_number _ = true
-
 -- the length of an `int`
 abbrev pub is_word : Length → Bool
 is_word size.Word = true
@@ -96,7 +90,7 @@ is_word _ = false
 
 -- `c` and `s` have no length
 abbrev pub may_have : ConversionKind → Length → Bool
-may_have which span = is_of_number which || is_word span
+may_have which span = is_number which || is_word span
 
 -- ---- conversions
 

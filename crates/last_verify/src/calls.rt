@@ -40,7 +40,8 @@ fn arguments_suit(
 ) -> bool
     requires parameters { All (λ ty. ty < length types.now.types) parameters.now }
     requires arguments { All (λ o. o.ty < length types.now.types) arguments.now }
-    ensures { (cs : List meant.Constant) (vs bs : List meant.LocalName) → result ≡ values.arguments_suit variadic (map (type_at (trees types.now)) parameters.now) (map (operand_view (trees types.now) cs vs bs) arguments.now) }
+    ensures { (cs : List meant.Constant) (vs bs : List meant.LocalName)
+        → result ≡ values.arguments_suit variadic (map (type_at (trees types.now)) parameters.now) (map (operand_view (trees types.now) cs vs bs) arguments.now) }
 {
     if arguments.len() < parameters.len() {
         return false;
@@ -54,7 +55,8 @@ fn arguments_suit(
 fn called_suits(judge: &Judge<'_>, value_types: &[LocalType], call: &Call) -> bool
     requires types { AreTypes judge.now.table value_types.now }
     requires known { HasUses judge.now (length value_types.now) (inst.Call call.now) }
-    ensures { (f : meant.Function) (vs bs : List meant.LocalName) → AreLocalTypes judge.now f vs value_types.now → result ≡ values.call_suits (structs judge.now.table) f (inst_view (trees judge.now.table) (constants_of judge.now) vs bs (inst.Call call.now)).result (inst_view (trees judge.now.table) (constants_of judge.now) vs bs (inst.Call call.now)).operation }
+    ensures { (f : meant.Function) (vs bs : List meant.LocalName) → AreLocalTypes judge.now f vs value_types.now
+        → result ≡ values.call_suits (structs judge.now.table) f (inst_view (trees judge.now.table) (constants_of judge.now) vs bs (inst.Call call.now)).result (inst_view (trees judge.now.table) (constants_of judge.now) vs bs (inst.Call call.now)).operation }
 {
     let types = judge.types();
     let signature = &call.signature;
@@ -75,7 +77,8 @@ fn called_suits(judge: &Judge<'_>, value_types: &[LocalType], call: &Call) -> bo
 pub(crate) fn call_suits(judge: &Judge<'_>, value_types: &[LocalType], instruction: &Inst) -> bool
     requires types { AreTypes judge.now.table value_types.now }
     requires known { HasUses judge.now (length value_types.now) instruction.now }
-    ensures { (f : meant.Function) (vs bs : List meant.LocalName) → AreLocalTypes judge.now f vs value_types.now → result ≡ values.call_suits (structs judge.now.table) f (inst_view (trees judge.now.table) (constants_of judge.now) vs bs instruction.now).result (inst_view (trees judge.now.table) (constants_of judge.now) vs bs instruction.now).operation }
+    ensures { (f : meant.Function) (vs bs : List meant.LocalName) → AreLocalTypes judge.now f vs value_types.now
+        → result ≡ values.call_suits (structs judge.now.table) f (inst_view (trees judge.now.table) (constants_of judge.now) vs bs instruction.now).result (inst_view (trees judge.now.table) (constants_of judge.now) vs bs instruction.now).operation }
 {
     match instruction {
         Inst::Call(call) => called_suits(judge, value_types, call.get()),

@@ -35,7 +35,8 @@ fn judge_written(
 ) -> Result<(), VerifyFault>
     requires types { AreTypes judge.now.table value_types.now }
     requires known { All (HasOperand (length judge.now.table.types) (length judge.now.constants) (length value_types.now)) operands.now }
-    ensures { (values blocks : List LocalName) → AreLocalTypes judge.now (function_in judge.now function.now) values value_types.now → Judged (written_demands (module_of judge.now) (function_in judge.now function.now) number (map (operand_view (trees judge.now.table) (constants_of judge.now) values blocks) operands.now)) result }
+    ensures { (values blocks : List LocalName) → AreLocalTypes judge.now (function_in judge.now function.now) values value_types.now
+        → Judged (written_demands (module_of judge.now) (function_in judge.now function.now) number (map (operand_view (trees judge.now.table) (constants_of judge.now) values blocks) operands.now)) result }
 {
     let typed = have_types_written(judge, value_types, operands);
     judge_instruction(alloc, number, &function.name, &[asked(11, typed)])
@@ -54,7 +55,8 @@ fn judge_calls(
     requires types { AreTypes judge.now.table value_types.now }
     requires known { HasUses judge.now (length value_types.now) instruction.now }
     requires gathered { operands.now ≡ gathered.operands_of instruction.now }
-    ensures { (values blocks : List LocalName) → AreLocalTypes judge.now (function_in judge.now function.now) values value_types.now → Judged (call_demands (module_of judge.now) (function_in judge.now function.now) number (inst_view (trees judge.now.table) (constants_of judge.now) values blocks instruction.now)) result }
+    ensures { (values blocks : List LocalName) → AreLocalTypes judge.now (function_in judge.now function.now) values value_types.now
+        → Judged (call_demands (module_of judge.now) (function_in judge.now function.now) number (inst_view (trees judge.now.table) (constants_of judge.now) values blocks instruction.now)) result }
 {
     let suits = call_suits(judge, value_types, instruction);
     let direct = callee_fits(judge, callee_of(instruction));
@@ -83,7 +85,8 @@ pub fn judge_last(
     requires types { AreTypes judge.now.table value_types.now }
     requires known { HasUses judge.now (length value_types.now) instruction.now }
     requires gathered { operands.now ≡ gathered.operands_of instruction.now }
-    ensures { (values blocks : List LocalName) → AreLocalTypes judge.now (function_in judge.now function.now) values value_types.now → Judged (last_demands (module_of judge.now) (function_in judge.now function.now) number (inst_view (trees judge.now.table) (constants_of judge.now) values blocks instruction.now)) result }
+    ensures { (values blocks : List LocalName) → AreLocalTypes judge.now (function_in judge.now function.now) values value_types.now
+        → Judged (last_demands (module_of judge.now) (function_in judge.now function.now) number (inst_view (trees judge.now.table) (constants_of judge.now) values blocks instruction.now)) result }
 {
     judge_written(alloc, judge, value_types, function, number, operands)?;
     judge_instruction_types(alloc, judge, &function.name, number, instruction)?;
@@ -115,7 +118,8 @@ pub fn judge_ending_last(
     requires types { AreTypes judge.now.table value_types.now }
     requires known { All (HasOperand (length judge.now.table.types) (length judge.now.constants) (length value_types.now)) operands.now }
     requires gathered { operands.now ≡ gathered.end_operands_of ending.now }
-    ensures { (values blocks : List LocalName) → AreLocalTypes judge.now (function_in judge.now function.now) values value_types.now → Judged (ending_last_demands (module_of judge.now) (function_in judge.now function.now) number (ending_view (trees judge.now.table) (constants_of judge.now) values blocks ending.now)) result }
+    ensures { (values blocks : List LocalName) → AreLocalTypes judge.now (function_in judge.now function.now) values value_types.now
+        → Judged (ending_last_demands (module_of judge.now) (function_in judge.now function.now) number (ending_view (trees judge.now.table) (constants_of judge.now) values blocks ending.now)) result }
 {
     judge_written(alloc, judge, value_types, function, number, operands)?;
     judge_ending_types(alloc, judge, function, number, ending)

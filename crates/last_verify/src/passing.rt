@@ -29,9 +29,12 @@ pub fn operation_passes(judge: &Judge<'_>, value_types: &[LocalType], instructio
     requires types { AreTypes judge.now.table value_types.now }
     requires known { HasUses judge.now (length value_types.now) instruction.now }
     // Rules 5 to 7, 12 to 16, and 17 and 18.
-    ensures first { (values blocks : List LocalName) (function : Bytes) (number : ℕ) → result ≡ true → AllHold (first_demands (module_of judge.now) function number (inst_view (trees judge.now.table) (constants_of judge.now) values blocks instruction.now)) }
-    ensures types { (values blocks : List LocalName) (function : Bytes) (number : ℕ) → result ≡ true → AllHold (type_demands (module_of judge.now) function number (inst_view (trees judge.now.table) (constants_of judge.now) values blocks instruction.now)) }
-    ensures calls { (f : modules.Function) (values blocks : List LocalName) (number : ℕ) → AreLocalTypes judge.now f values value_types.now → result ≡ true → AllHold (call_demands (module_of judge.now) f number (inst_view (trees judge.now.table) (constants_of judge.now) values blocks instruction.now)) }
+    ensures first { (values blocks : List LocalName) (function : Bytes) (number : ℕ) → result ≡ true
+        → AllHold (first_demands (module_of judge.now) function number (inst_view (trees judge.now.table) (constants_of judge.now) values blocks instruction.now)) }
+    ensures types { (values blocks : List LocalName) (function : Bytes) (number : ℕ) → result ≡ true
+        → AllHold (type_demands (module_of judge.now) function number (inst_view (trees judge.now.table) (constants_of judge.now) values blocks instruction.now)) }
+    ensures calls { (f : modules.Function) (values blocks : List LocalName) (number : ℕ) → AreLocalTypes judge.now f values value_types.now → result ≡ true
+        → AllHold (call_demands (module_of judge.now) f number (inst_view (trees judge.now.table) (constants_of judge.now) values blocks instruction.now)) }
 {
     let passes = instruction_passes(judge, instruction);
     let suits = call_suits(judge, value_types, instruction);
@@ -52,8 +55,10 @@ pub fn types_pass(
     requires types { AreTypes judge.now.table value_types.now }
     requires known { HasUses judge.now (length value_types.now) instruction.now }
     requires gathered { operands.now ≡ gathered.operands_of instruction.now }
-    ensures first { (values blocks : List LocalName) (function : Bytes) (number : ℕ) → result ≡ true → AllHold (first_demands (module_of judge.now) function number (inst_view (trees judge.now.table) (constants_of judge.now) values blocks instruction.now)) }
-    ensures last { (f : modules.Function) (values blocks : List LocalName) (number : ℕ) → AreLocalTypes judge.now f values value_types.now → result ≡ true → AllHold (last_demands (module_of judge.now) f number (inst_view (trees judge.now.table) (constants_of judge.now) values blocks instruction.now)) }
+    ensures first { (values blocks : List LocalName) (function : Bytes) (number : ℕ) → result ≡ true
+        → AllHold (first_demands (module_of judge.now) function number (inst_view (trees judge.now.table) (constants_of judge.now) values blocks instruction.now)) }
+    ensures last { (f : modules.Function) (values blocks : List LocalName) (number : ℕ) → AreLocalTypes judge.now f values value_types.now → result ≡ true
+        → AllHold (last_demands (module_of judge.now) f number (inst_view (trees judge.now.table) (constants_of judge.now) values blocks instruction.now)) }
 {
     let typed = all_have(judge, value_types, operands);
     operation_passes(judge, value_types, instruction) & typed
@@ -74,8 +79,10 @@ pub fn ending_types_pass(
     requires types { AreTypes judge.now.table value_types.now }
     requires known { All (HasOperand (length judge.now.table.types) (length judge.now.constants) (length value_types.now)) operands.now }
     requires gathered { operands.now ≡ gathered.end_operands_of ending.now }
-    ensures first { (values blocks : List LocalName) (number : ℕ) → result ≡ true → AllHold (ending_first_demands (module_of judge.now) function.now.name number (ending_view (trees judge.now.table) (constants_of judge.now) values blocks ending.now)) }
-    ensures last { (values blocks : List LocalName) (number : ℕ) → AreLocalTypes judge.now (function_in judge.now function.now) values value_types.now → result ≡ true → AllHold (ending_last_demands (module_of judge.now) (function_in judge.now function.now) number (ending_view (trees judge.now.table) (constants_of judge.now) values blocks ending.now)) }
+    ensures first { (values blocks : List LocalName) (number : ℕ) → result ≡ true
+        → AllHold (ending_first_demands (module_of judge.now) function.now.name number (ending_view (trees judge.now.table) (constants_of judge.now) values blocks ending.now)) }
+    ensures last { (values blocks : List LocalName) (number : ℕ) → AreLocalTypes judge.now (function_in judge.now function.now) values value_types.now → result ≡ true
+        → AllHold (ending_last_demands (module_of judge.now) (function_in judge.now function.now) number (ending_view (trees judge.now.table) (constants_of judge.now) values blocks ending.now)) }
 {
     let passes = ending_passes(judge, function, ending);
     let typed = have_types_written(judge, value_types, operands);

@@ -11,5 +11,5 @@ pub mod Homes
 pub mod Steps
 pub mod Defining
 pub mod Kept
-pub mod Next
+pub mod NextSymbol
 pub mod Stands

@@ -191,7 +191,8 @@ fn count_passes(count: &Option<Box<TypedValue>>) -> bool
 /// An alloca of one.
 #[inline(always)]
 fn alloca_passes(alloca: &Alloca) -> bool
-    ensures { (known : demands.Known) → (all : Locals) → result ≡ true → Hold (type_demands known (type_view alloca.now.ty) ++ (count_demands known all (option_map (λ b. typed_value_view b.value) alloca.now.count) ++ alignment_demands alloca.now.alignment)) }
+    ensures { (known : demands.Known) → (all : Locals) → result ≡ true
+        → Hold (type_demands known (type_view alloca.now.ty) ++ (count_demands known all (option_map (λ b. typed_value_view b.value) alloca.now.count) ++ alignment_demands alloca.now.alignment)) }
 {
     if !type_passes(&alloca.ty) {
         return false;

@@ -11,16 +11,17 @@ use Rattle.ir_tables.specs.Intrinsic.{intrinsics}
 use Rattle.ir_tables.specs.IntrinsicName.{has_width, name_front, IsNamed}
 use Rattle.ir_tables.proofs.IntrinsicValues.{intrinsic_listed}
 use Rattle.module_arena.specs.Module.{Bytes}
-use Rattle.module_arena.specs.HostRows.{HostRow, Integer, counted, width_named, row_at, row_among}
+use Rattle.module_arena.specs.HostRows.{HostRow, Integer, width_named, row_at, row_among}
+use Rattle.module_arena.specs.Known.{upto}
 use Rattle.module_arena.proofs.Found.{some-equal, none≢some}
 
 -- what a search through numbers in a row finds
-pub found_among : (q : ℕ → Bool) (first count w : ℕ) → find q (counted first count) ≡ Some w → (first ≤ w) × (w < first + count) × (q w ≡ true)
-unfolding counted
+pub found_among : (q : ℕ → Bool) (first count w : ℕ) → find q (upto first count) ≡ Some w → (first ≤ w) × (w < first + count) × (q w ≡ true)
+unfolding upto
 found_among q first zero w e = absurd (none≢some e)
 found_among q first (suc count) w e = by (q first) refl (found_among q (first + 1) count w) e
   where
-    by : (b : Bool) → q first ≡ b → (find q (counted (first + 1) count) ≡ Some w → (first + 1 ≤ w) × (w < first + 1 + count) × (q w ≡ true)) → cond b (Some first) (find q (counted (first + 1) count)) ≡ Some w → (first ≤ w) × (w < first + suc count) × (q w ≡ true)
+    by : (b : Bool) → q first ≡ b → (find q (upto (first + 1) count) ≡ Some w → (first + 1 ≤ w) × (w < first + 1 + count) × (q w ≡ true)) → cond b (Some first) (find q (upto (first + 1) count)) ≡ Some w → (first ≤ w) × (w < first + suc count) × (q w ≡ true)
     by true is rest e = let same : first ≡ w = some-equal e in (omega (arith, same), omega (arith, same), ap q (sym same) ∙ is)
     by false is rest e = let r = rest e in (omega (arith, r.0), omega (arith, r.1), r.2)
 
@@ -28,12 +29,12 @@ above : (first w : ℕ) → first ≤ w → (w ≡ first → ⊥) → first + 1 
 above first w low other = omega arith
 
 -- a number that passes is not missed
-not_missed : (q : ℕ → Bool) (first count w : ℕ) → first ≤ w → w < first + count → q w ≡ true → find q (counted first count) ≡ None → ⊥
-unfolding counted
+not_missed : (q : ℕ → Bool) (first count w : ℕ) → first ≤ w → w < first + count → q w ≡ true → find q (upto first count) ≡ None → ⊥
+unfolding upto
 not_missed q first zero w low high is e = omega arith
 not_missed q first (suc count) w low high is e = by (q first) refl (not_missed q (first + 1) count w) e
   where
-    by : (b : Bool) → q first ≡ b → (first + 1 ≤ w → w < first + 1 + count → q w ≡ true → find q (counted (first + 1) count) ≡ None → ⊥) → cond b (Some first) (find q (counted (first + 1) count)) ≡ None → ⊥
+    by : (b : Bool) → q first ≡ b → (first + 1 ≤ w → w < first + 1 + count → q w ≡ true → find q (upto (first + 1) count) ≡ None → ⊥) → cond b (Some first) (find q (upto (first + 1) count)) ≡ None → ⊥
     by true here rest e = none≢some (sym e)
     by false here rest e = rest (above first w low (λ same. true≢false (sym is ∙ ap q same ∙ here))) (omega arith) is e
 
@@ -44,7 +45,7 @@ passes name which width = has_width which width && bytes_eq (name_front which ++
 width_sound : (name : Bytes) (which : Intrinsic) (w : ℕ) → width_named name which ≡ Some w → IsNamed which w name
 width_sound name which w e = by (starts_with nat_eq name (name_front which)) e
   where
-    by : (b : Bool) → cond b (find (passes name which) (counted 1 128)) None ≡ Some w → IsNamed which w name
+    by : (b : Bool) → cond b (find (passes name which) (upto 1 128)) None ≡ Some w → IsNamed which w name
     by true e =
         let r = found_among (passes name which) 1 128 w e in
         let k = and_parts (has_width which w) (bytes_eq (name_front which ++ decimal w) name) r.2 in
@@ -60,7 +61,7 @@ width_complete name which w is e =
     let there : passes name which w ≡ true = and_from (has_width which w) (bytes_eq (name_front which ++ decimal w) name) is.whole ((bytes_decides (name_front which ++ decimal w) name).1 (sym is.named)) in
     let some = is.some in
     let most = is.most in
-    not_missed (passes name which) 1 128 w some (omega (arith, most)) there (sym (ap (λ b. cond b (find (passes name which) (counted 1 128)) None) begins) ∙ e)
+    not_missed (passes name which) 1 128 w some (omega (arith, most)) there (sym (ap (λ b. cond b (find (passes name which) (upto 1 128)) None) begins) ∙ e)
 
 -- a row that is found, with what it is
 record IsFound (name : Bytes) (row : HostRow) : Type 0 where

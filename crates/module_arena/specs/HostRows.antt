@@ -12,6 +12,7 @@ use Rattle.ir_tables.specs.declared.width.TheConstants.{WIDEST}
 use Rattle.type_table.specs.Tree.{Tree, int, ptr, void, struct, no_trees, more_trees}
 pub use Rattle.module_arena.specs.declared.host.HostRow.{HostRow}
 pub use Rattle.module_arena.specs.declared.host.HostRow.TheVariants.{Putchar, Puts, Getchar, Exit, Abort, Malloc, Free, Memcpy, Memmove, Memset, Strlen, MemcpyI64, MemmoveI64, MemsetI64, MemcpyI32, MemmoveI32, MemsetI32, LifetimeStart, LifetimeEnd, Printf, Integer}
+use Rattle.module_arena.specs.Known.{upto}
 use Rattle.module_arena.specs.Module.{Bytes, Signature, Function}
 use Rattle.module_arena.specs.Same.{same_type}
 
@@ -104,16 +105,11 @@ abbrev pub host_types : HostRow → List Signature
 host_types (Integer which width) = fixed (integer_returns which width) (integer_parameters which width) ∷ []
 host_types row = fixed_types row
 
--- so many numbers from the first on
-unfoldable pub counted : ℕ → ℕ → List ℕ
-counted first zero = []
-counted first (suc count) = first ∷ counted (first + 1) count
-
 -- the width at which an intrinsic has that name
 abbrev pub width_named : Bytes → Intrinsic → Option ℕ
 width_named name which =
     if starts_with nat_eq name (name_front which)
-    then find (λ width. has_width which width && bytes_eq (name_front which ++ decimal width) name) (counted 1 WIDEST) else None
+    then find (λ width. has_width which width && bytes_eq (name_front which ++ decimal width) name) (upto 1 WIDEST) else None
 
 -- the intrinsic at the width that was found, or else the other row
 abbrev pub row_at : Intrinsic → Option ℕ → Option HostRow → Option HostRow

@@ -58,7 +58,8 @@ pub(crate) fn check_declaration(
     declaration: &Declaration,
 ) -> Result<(), ResolveFault>
     requires known { IsKnown known.now }
-    ensures { (before : List PlacedName) → earlier ≡ place_of_name before declaration.now.head.name.name → IsJudged (head_demands (known_of known.now) before (head_view declaration.now.head) ++ flat_map (type_demands (known_of known.now)) (parameter_types (map parameter_view declaration.now.formal.parameters.items))) result }
+    ensures { (before : List PlacedName) → earlier ≡ place_of_name before declaration.now.head.name.name
+        → IsJudged (head_demands (known_of known.now) before (head_view declaration.now.head) ++ flat_map (type_demands (known_of known.now)) (parameter_types (map parameter_view declaration.now.formal.parameters.items))) result }
 {
     check_head(alloc, known, earlier, &declaration.head)?;
     check_parameter_types(alloc, known, &declaration.formal.parameters)
@@ -73,7 +74,8 @@ pub(crate) fn check_function<'a>(
     definition: &'a Definition,
 ) -> Result<(), ResolveFault>
     requires known { IsKnown known.now }
-    ensures { (before : List PlacedName) → earlier ≡ place_of_name before definition.now.head.name.name → IsJudged (head_demands (known_of known.now) before (head_view definition.now.head) ++ definition_demands (known_of known.now) (map parameter_view definition.now.parameters.items) (map block_view definition.now.blocks.items)) result }
+    ensures { (before : List PlacedName) → earlier ≡ place_of_name before definition.now.head.name.name
+        → IsJudged (head_demands (known_of known.now) before (head_view definition.now.head) ++ definition_demands (known_of known.now) (map parameter_view definition.now.parameters.items) (map block_view definition.now.blocks.items)) result }
 {
     check_head(alloc, known, earlier, &definition.head)?;
     check_definition(

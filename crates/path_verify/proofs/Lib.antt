@@ -1,4 +1,4 @@
-pub mod Both
+pub mod BothPass
 pub mod Counted
 pub mod InModule
 pub mod Joined

@@ -22,10 +22,6 @@ texts_of (Table bytes) = read_only bytes
 abbrev pub IsLocal : the_local.LocalName → LocalName → Type 0
 IsLocal kept name = local_view kept ≡ name
 
--- the very value is kept
-abbrev pub Is : {A : Type 0} → A → A → Type 0
-Is kept value = kept ≡ value
-
 -- the very number is kept, and it is below this one
 abbrev pub IsBelow : ℕ → ℕ → ℕ → Type 0
 IsBelow count kept value = (kept ≡ value) × (kept < count)

@@ -6,6 +6,7 @@ use Rattle.std.specs.List.{AllByRecursion}
 use Rattle.ir_tables.specs.declared.opcode.Opcode.TheVariants as op
 use Rattle.type_table.specs.declared.measure.TheConstants.{NESTING_LIMIT}
 use Rattle.type_table.specs.Tree.{Tree, int, ptr}
+use Rattle.module_arena.specs.declared.arena.TheConstants.{INDEX_LIMIT}
 use Rattle.module_arena.specs.Module.{LocalName, Operand, Incoming, Operation, BinaryOperation, Compare, Convert, Select, Freeze, Phi, Load, Store, Alloca, GetElementPtr, Call, ExtractValue, InsertValue, Instruction, Case, Ending, ReturnVoid, Return, Jump, Branch, Switch, Unreachable}
 use Rattle.module_arena.specs.TypeTests.{is_void}
 use Rattle.module_arena.specs.Forms.{is_binary, is_cast}
@@ -30,7 +31,7 @@ IsAbsent (Some x) = ⊥
 
 -- some indices, of 32 bits
 abbrev pub AreIndices : List ℕ → Type 0
-AreIndices is = AreSome (λ n. nat_lt n 0x1_0000_0000 ≡ true) is
+AreIndices is = AreSome (λ n. nat_lt n INDEX_LIMIT ≡ true) is
 
 -- a call has a result where it does not return `void`
 abbrev pub IsCallResult : Texts → ℕ → Bool → Option LocalName → Type 0

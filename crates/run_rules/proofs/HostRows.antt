@@ -5,7 +5,8 @@ use Rattle.ir_tables.specs.declared.undefined_kind.UndefinedKind.TheVariants.{Ba
 use Rattle.ir_eval.specs.Cast.{cast_of}
 use Rattle.ir_intrinsics.specs.Results.{apply_of}
 use Rattle.ir_printf.specs.Pattern.{small_number, written_conversion, conversion_in, conversion_size}
-use Rattle.module_arena.specs.HostRows.{host_row, counted}
+use Rattle.module_arena.specs.HostRows.{host_row}
+use Rattle.module_arena.specs.Known.{upto}
 use Rattle.module_arena.specs.Module.{Module}
 use Rattle.type_table.specs.Shape.{name_shape}
 use Rattle.run_rules.specs.Access.{string_within}
@@ -20,7 +21,7 @@ use Rattle.run_rules.proofs.Rows.{ended}
 
 -- a module that is run alone, over an empty input
 unfoldable calling : Module → Outcome
-unfolding advanced block_with with_string with_strings with_pointers with_main repeated string_within host_row counted cast_of name_shape apply_of string_up_to written_from small_number written_conversion conversion_in conversion_size digits
+unfolding advanced block_with with_string with_strings with_pointers with_main repeated string_within host_row upto cast_of name_shape apply_of string_up_to written_from small_number written_conversion conversion_in conversion_size digits
 calling m = Side (m ∷ []) [] [] 10
 
 -- the high eight bits of 1000000110000000 moved by one

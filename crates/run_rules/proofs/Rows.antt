@@ -4,7 +4,8 @@ use Rattle.ir_tables.specs.declared.undefined_kind.UndefinedKind.TheVariants.{Br
 use Rattle.ir_eval.specs.Arithmetic.{arithmetic}
 use Rattle.ir_eval.specs.Cast.{cast_of}
 use Rattle.ir_eval.specs.Operators.{binary_of}
-use Rattle.module_arena.specs.HostRows.{host_row, counted}
+use Rattle.module_arena.specs.HostRows.{host_row}
+use Rattle.module_arena.specs.Known.{upto}
 use Rattle.module_arena.specs.Module.{Module}
 use Rattle.type_table.specs.Shape.{name_shape}
 use Rattle.run_rules.specs.Access.{string_within}
@@ -21,7 +22,7 @@ ended output end = record { output = output; end = end }
 
 -- parts that are run side by side, over an empty input
 unfoldable together : List Module → ℕ → Outcome
-unfolding advanced block_with with_string with_strings with_pointers with_main repeated string_within host_row counted binary_of arithmetic cast_of name_shape
+unfolding advanced block_with with_string with_strings with_pointers with_main repeated string_within host_row upto binary_of arithmetic cast_of name_shape
 together parts bound = Side parts [] [] bound
 
 -- the sum is poison, and the branch asks for it

@@ -11,6 +11,7 @@ use crate::asking::ask;
 use ir_base::Place;
 use ir_tables::WIDEST;
 use ir_terminals::{Integer, Number};
+use module_arena::INDEX_LIMIT;
 use name_rules::ResolveFault;
 
 /// Whether the number is at most so many.
@@ -73,7 +74,7 @@ fn is_index(written: &Integer) -> bool
     if !is_natural(written) {
         return false;
     }
-    is_at_most(&written.magnitude, u128::from(u32::MAX))
+    is_at_most(&written.magnitude, u128::from(INDEX_LIMIT - 1))
 }
 
 /// An index or an alignment: from 0 to 2^32 - 1.

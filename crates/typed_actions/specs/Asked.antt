@@ -31,9 +31,11 @@ module _ (t : Typing) (look : ℕ → ℕ → ℕ → Action) (function : ℕ) (
 
   -- values have their leaves, the result has its place, and the tests of validity are passed
   pub record IsAsked (i : Instruction) : Type 0 where
+    -- leaves of operands, of what is called, and of the result
     pub values : AllByRecursion IsGoodOperand (operands i.operation)
     pub called : AllByRecursion (HasLeaves ptr) (option_to_list (callee i.operation))
     pub placed : IsResult t look function (place_in sc i.result) (kinds_of (result_shape sc.names i.operation))
+    -- the tests that validity makes: of types, of the phrase, of alignments, and of each kind of operation
     pub types : list_all (is_good_type sc.names.structs) (types_of_operation i.operation) ≡ true
     pub phrase : is_operation_of_phrase i.operation ≡ true
     pub lies : other_types_suit sc.names.structs i.operation ≡ true

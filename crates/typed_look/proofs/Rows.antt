@@ -11,7 +11,8 @@ use Rattle.ir_tables.specs.Intrinsic.{intrinsics}
 use Rattle.ir_tables.specs.IntrinsicName.{has_width, name_front}
 use Rattle.module_arena.specs.declared.host.HostRow.{HostRow}
 use Rattle.module_arena.specs.declared.host.HostRow.TheVariants.{Integer}
-use Rattle.module_arena.specs.HostRows.{counted, width_named, row_at, row_among, first_row, fixed_name, host_rows, host_row}
+use Rattle.module_arena.specs.HostRows.{width_named, row_at, row_among, first_row, fixed_name, host_rows, host_row}
+use Rattle.module_arena.specs.Known.{upto}
 use Rattle.module_arena.specs.Module.{Bytes}
 use Rattle.module_arena.proofs.IntegerNames.{found_among}
 use Rattle.typed_runs.specs.States.{IsRow}
@@ -23,7 +24,7 @@ passes name which width = has_width which width && bytes_eq (name_front which ++
 width_is : (name : Bytes) (which : Intrinsic) (w : ℕ) → width_named name which ≡ Some w → IsRow (Integer which w)
 width_is name which w e = by (starts_with nat_eq name (name_front which)) e
   where
-    by : (b : Bool) → cond b (find (passes name which) (counted 1 128)) None ≡ Some w → IsRow (Integer which w)
+    by : (b : Bool) → cond b (find (passes name which) (upto 1 128)) None ≡ Some w → IsRow (Integer which w)
     by true e =
         let r = found_among (passes name which) 1 128 w e in
         let k = and_parts (has_width which w) (bytes_eq (name_front which ++ decimal w) name) r.2 in

@@ -1,7 +1,7 @@
 use Rattle.std.proofs.Common.{sym, ◌∙◌}
 use Rattle.ir_terminals.specs.Position.{tokens_left}
 use Rattle.ir_constants.specs.View.{typed_constant_view}
-use Rattle.ir_constants.proofs.Next.{elements_next, elements_less}
+use Rattle.ir_constants.proofs.BehindComma.{elements_next, elements_less}
 use Rattle.ir_constants.proofs.+constants.Goals as goal
 
 pub constants::elements-elements-smaller : goal.constants::elements-elements-smaller

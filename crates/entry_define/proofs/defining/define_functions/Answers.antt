@@ -12,7 +12,7 @@ use Rattle.part_declare.specs.FunctionsThere.{with_functions}
 use Rattle.entry_define.specs.Filling.{defined_as}
 use Rattle.entry_define.proofs.Changed.{keeps_all_same, keeps_all_on}
 use Rattle.entry_define.proofs.Filled.{functions_step, next_found, behind_is, behind_upto, all_done}
-use Rattle.entry_define.proofs.Next.{function_there, function_unset}
+use Rattle.entry_define.proofs.NextEntry.{function_there, function_unset}
 use Rattle.entry_define.proofs.defining.define_functions.Goals as goal
 
 pub define_next-requires-clause-known : goal.define_next-requires-clause-known

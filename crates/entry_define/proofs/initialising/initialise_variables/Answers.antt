@@ -11,7 +11,7 @@ use Rattle.entry_define.specs.Filling.{initialised_as}
 use Rattle.entry_define.proofs.Changed.{keeps_all_same, keeps_all_on}
 use Rattle.entry_define.proofs.Filled.{variables_step, next_found, behind_is, behind_upto, all_done}
 use Rattle.entry_define.proofs.Initialisers.{variable_made}
-use Rattle.entry_define.proofs.Next.{variable_there, variable_unset}
+use Rattle.entry_define.proofs.NextEntry.{variable_there, variable_unset}
 use Rattle.entry_define.proofs.initialising.initialise_variables.Goals as goal
 
 pub initialise_next-requires-clause-known : goal.initialise_next-requires-clause-known

@@ -1,7 +1,7 @@
 use Rattle.std.proofs.Common.{sym, ◌∙◌}
 use Rattle.ir_terminals.specs.Position.{tokens_left}
 use Rattle.ir_constants.specs.View.{type_view}
-use Rattle.ir_constants.proofs.Next.{types_next, types_less}
+use Rattle.ir_constants.proofs.BehindComma.{types_next, types_less}
 use Rattle.ir_constants.proofs.types.+types.Goals as goal
 
 pub fields-fields-smaller : goal.fields-fields-smaller

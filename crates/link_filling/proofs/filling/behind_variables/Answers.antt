@@ -1,6 +1,6 @@
 use Rattle.std.proofs.Common.{◌≡◌, ◌+◌, ◌-◌, sym, ◌∙◌, subst, arith}
 use Rattle.link_filling.specs.Standing.{ArePlainFrom}
-use Rattle.link_filling.proofs.Next.{plain_at_end, plain_more}
+use Rattle.link_filling.proofs.NextSymbol.{plain_at_end, plain_more}
 use Rattle.link_filling.proofs.filling.behind_variables.Goals as goal
 
 pub ids-init : goal.ids-init

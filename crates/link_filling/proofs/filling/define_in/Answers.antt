@@ -4,7 +4,7 @@ use Rattle.link_filling.specs.Filling.{IsBareEntry}
 use Rattle.link_filling.specs.Standing.{IsPlainId}
 use Rattle.link_filling.proofs.Defining.{three_ok}
 use Rattle.link_filling.proofs.Homes.{IsOfKind}
-use Rattle.link_filling.proofs.Next.{alias_done, function_done, next_bare, next_group, next_kind, next_known, next_name, next_untargeted}
+use Rattle.link_filling.proofs.NextSymbol.{alias_done, function_done, next_bare, next_group, next_kind, next_known, next_name, next_untargeted}
 use Rattle.link_filling.proofs.Within.{alias_within, function_within}
 use Rattle.link_filling.proofs.filling.define_in.Goals as goal
 

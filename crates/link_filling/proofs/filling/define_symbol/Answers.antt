@@ -9,7 +9,7 @@ use Rattle.link_filling.specs.Filling.{IsBare}
 use Rattle.link_filling.proofs.Defining.{bare_definition, home_known, home_within, kind_here, left_declared, name_of_it, plain_defined, table_within, three_ok}
 use Rattle.link_filling.proofs.Homes.{IsOfKind}
 use Rattle.link_filling.proofs.Kept.{home_kept, variable_kept}
-use Rattle.link_filling.proofs.Next.{plain_id}
+use Rattle.link_filling.proofs.NextSymbol.{plain_id}
 use Rattle.link_filling.proofs.filling.define_symbol.Goals as goal
 
 pub returns-in-None : goal.returns-in-None

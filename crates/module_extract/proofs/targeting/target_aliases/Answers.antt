@@ -9,7 +9,7 @@ use Rattle.extract_core.proofs.Keeping.{alias_at, aliases_length}
 use Rattle.entry_fates.specs.Fates.{alias_as, made}
 use Rattle.entry_define.specs.Filling.{targeted_as, with_aliases}
 use Rattle.entry_define.proofs.Filled.{aliases_step, next_found, behind_is, behind_upto, all_done_alone}
-use Rattle.entry_define.proofs.Next.{alias_there}
+use Rattle.entry_define.proofs.NextEntry.{alias_there}
 use Rattle.module_extract.proofs.targeting.target_aliases.Goals as goal
 
 pub target_next-next-requires-clause-known : goal.target_next-next-requires-clause-known
