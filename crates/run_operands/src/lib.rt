@@ -31,4 +31,4 @@ pub use operands::{
 };
 pub use pooled::{put_known, put_slots};
 pub use terms::put_steps;
-pub use ways::{put_edge, put_way};
+pub use ways::put_edge;

@@ -14,7 +14,7 @@ use run_scopes::{FunctionScope, push_way};
 use std::alloc::AllocError;
 
 /// The way from a block into another, with its moves among the moves. It is refused for want of memory alone.
-pub fn put_way(
+pub(crate) fn put_way(
     scope: &FunctionScope<'_, '_>,
     pools: &mut Pools,
     from: BlockId,

@@ -63,7 +63,7 @@ pub fn check_constant(
 
 /// A type, and a constant that stands at it.
 #[cycle(constants)]
-pub fn check_typed_constant(
+pub(crate) fn check_typed_constant(
     alloc: Global,
     known: &Known,
     typed: &TypedConstant,

@@ -50,7 +50,7 @@ fn fits(bits: u8, negative: bool, number: &Number) -> bool
 }
 
 /// A constant of so many bits, of that sign and magnitude.
-pub fn check_integer(
+pub(crate) fn check_integer(
     bits: u8,
     negative: bool,
     place: Place,
@@ -78,7 +78,7 @@ fn is_index(written: &Integer) -> bool
 }
 
 /// An index or an alignment: from 0 to 2^32 - 1.
-pub fn check_index(written: &Integer) -> Result<(), ResolveFault>
+pub(crate) fn check_index(written: &Integer) -> Result<(), ResolveFault>
     ensures { IsJudged (is_index written.now ∷ []) result }
 {
     ask(
@@ -108,7 +108,7 @@ pub fn check_alignment(alignment: &Option<Integer>) -> Result<(), ResolveFault>
 }
 
 /// The length of an array, not negative.
-pub fn check_length(count: &Integer) -> Result<(), ResolveFault>
+pub(crate) fn check_length(count: &Integer) -> Result<(), ResolveFault>
     ensures { IsJudged (is_length count.now ∷ []) result }
 {
     ask(is_natural(count), ResolveFault::ConstantRange(count.place))

@@ -23,8 +23,8 @@ mod known;
 mod types;
 
 pub use asking::ask;
-pub use constants::{check_constant, check_typed_constant};
+pub use constants::check_constant;
 pub use globals::check_global;
-pub use integers::{check_alignment, check_index, check_indices, check_integer, check_length};
+pub use integers::{check_alignment, check_indices};
 pub use known::{Known, global_name};
 pub use types::{check_nesting, check_size, check_type, check_types, is_large};
