@@ -2,7 +2,7 @@
 //!
 //! It stands on `run_host`, which has the host functions one by one, on `ir_printf`, and on the definitions of `run_rules`. It promises
 //! that a call by one of the row's types answers as `host` says: the result, memory, the bytes that are written, the byte that is
-//! asked for, and how the run ends. Definitions: `specs/Made`, `Taken`, `Printing`; `Host`, `Printing` of `run_rules`.
+//! asked for, and how the run ends. Definitions: `specs/Made`, `Taken`, `Pieces`, `Printing`; `Host`, `Printing` of `run_rules`.
 //!
 //! ```
 //! let kinds = ArgumentKinds::new(types, shapes); // of the one type `i32`

@@ -1,4 +1,4 @@
--- For `read_producer`: the block that names the producer, and what stands behind it.
+-- For `read_producer` and `read_texts`: the block that names the producer, and what stands behind it.
 use Rattle.std.specs.Prelude.{◌≡◌, ℕ, suc, nat_eq, ◌&&◌, Bool, true, false, List, [], ◌∷◌, Option, Some, None, Ok, Err, if◌then◌else◌}
 use Rattle.bit_tree.specs.Pieces.{Piece, ended}
 use Rattle.record_table.specs.Faults.{Answer, Records, no_more, a_block, a_record, ForeignProducer, producer_id, ◌>>=◌}

@@ -1,4 +1,4 @@
--- For `compute`, `compare`, `convert` and others: what is asked of the operands of an instruction and of the place of its result.
+-- For all calls of the crate but `only`, `jump` and `unreachable`: what is asked of the operands of an instruction and of the place of its result.
 use Rattle.std.specs.Prelude.{ℕ, ◌+◌, ◌^◌, ◌<◌, ◌≤◌, length}
 use Rattle.ir_eval.specs.declared.value.Scalar.{Scalar}
 use Rattle.run_rules.specs.Frame.{read}

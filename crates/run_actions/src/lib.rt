@@ -2,7 +2,8 @@
 //!
 //! It stands on the instructions of `ir_eval` and on the frames of `run_stack`. It promises that each call makes of the newest frame
 //! what the definition of actions says, whatever addresses have, whatever is due and whatever memory holds; and that an undefined
-//! instruction, or want of memory, leaves all frames as they were. Definitions: `specs/Carried`, `specs/Operands`, `specs/Edges`.
+//! instruction, or want of memory, leaves all frames as they were. Definitions: `specs/Carried`, `specs/Operands`, `specs/Values`,
+//! `specs/Edges`.
 //!
 //! ```
 //! // of `%b = add i8 %a, 7`, where %a stands at place 0 of the newest frame, and is 250

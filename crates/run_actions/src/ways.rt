@@ -37,7 +37,7 @@ pub fn jump(stack: &mut Stack, edge: &Edge, pool: &[Move])
 
 /// A way to one of two blocks: the second where the condition is 0 (LangRef, "br Instruction").
 ///
-/// Refused where the condition is poison: that is undefined.
+/// Refused where the condition is poison, or no integer: that is undefined.
 #[inline]
 pub fn branch(
     stack: &mut Stack,
@@ -74,7 +74,7 @@ fn chosen<'a>(number: u128, otherwise: &'a Edge, cases: &'a [SwitchWay]) -> &'a 
 
 /// A way to the block of the first case with the number, or else to the other (LangRef, "switch Instruction").
 ///
-/// Refused where the value is poison: that is undefined.
+/// Refused where the value is poison, or no integer: that is undefined.
 #[inline(never)]
 pub fn switch(
     stack: &mut Stack,

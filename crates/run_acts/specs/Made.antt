@@ -1,4 +1,4 @@
--- For `call_address`, `return_value` and `call_due`: what is asked of calls and returns, and the bodies of the functions under way.
+-- For `call_address`, `return_value`, `call_due` and `call_or_return`: what is asked of calls and returns, and the bodies of the functions under way.
 use Rattle.std.specs.Prelude.{◌≡◌, ℕ, ◌+◌, ◌<◌, ◌≤◌, ⊤, true, List, [], ◌∷◌, map, length}
 use Rattle.std.specs.List.{All, AllZip, list_any}
 use Rattle.ir_eval.specs.declared.value.Scalar.{Scalar}

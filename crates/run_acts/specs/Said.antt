@@ -1,4 +1,4 @@
--- For `call_address`, `return_value`, `call_due` and `Stop::end`: what their answers mean in the words of a run.
+-- For `call_address`, `return_value`, `call_due`, `call_or_return`, `DueCalls::is_empty` and `Stop::end`: what their answers mean in the words of a run.
 use Rattle.std.specs.Prelude.{◌≡◌, ℕ, true, false, Bool, List, [], ◌∷◌}
 use Rattle.ir_eval.specs.declared.value.Pointer.{Pointer}
 use Rattle.ir_eval.specs.declared.value.Scalar.{Scalar}

@@ -36,7 +36,8 @@ pub fn calls_or_returns(program: &Program<'_>, stack: &Stack) -> bool
 /// Carries out the call or the return of the newest frame; `is_last` tells that nothing is due. What it writes is put into the room, in
 /// which nothing is.
 ///
-/// It is refused for want of memory alone, by an instruction that may want it.
+/// It is refused for want of memory alone, by an instruction that may want it. Where it is refused, or the run stops, frames and memory
+/// may be half changed: no instruction may follow.
 #[inline(always)]
 pub fn call_or_return(
     program: &mut Program<'_>,
@@ -67,7 +68,8 @@ pub fn call_or_return(
 /// Carries out the instruction of the newest frame, in whose function's body it stands, where it neither calls nor returns. None where
 /// it does: then nothing is done. It writes nothing, and asks for no byte. What `room` has is lost.
 ///
-/// It is refused for want of memory alone, by an instruction that may want it.
+/// It is refused for want of memory alone, by an instruction that may want it. Where it is refused, or the run stops, frames and memory
+/// may be half changed: no instruction may follow.
 #[inline(always)]
 pub fn act_inside(
     decoded: &ActionBody<'_>,

@@ -176,12 +176,6 @@ module _ (p : Pools) (a : Lists) (action : Action) where
 
 -- ---- where the program ends
 
-pub frames_stay : {T : Type 0} (r : Result T MemoryFault) (old new : UnderWay) → OnErr r (new ≡ old) → FramesStay r old new
-frames_stay (Ok done) old new h = tt
-frames_stay (Err (faults.Undefined kind)) old new h = h
-frames_stay (Err faults.MemoryLimit) old new h = h
-frames_stay (Err faults.Memory) old new h = tt
-
 pub frames_stay_at_end : {T : Type 0} (r : Result T MemoryFault) (old new : UnderWay) (m n : Blocks) → StaysAtAnEnd r old new m n → FramesStay r old new
 frames_stay_at_end (Ok done) old new m n h = tt
 frames_stay_at_end (Err (faults.Undefined kind)) old new m n h = h.0

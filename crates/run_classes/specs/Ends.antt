@@ -1,4 +1,4 @@
--- For `act_on_load`, `act_on_store` and `act_on_alloca`: what is left of the frames where the program ends.
+-- For `act_on_alloca`: what is left of the frames where the program ends.
 use Rattle.std.specs.Prelude.{◌≡◌, ⊤, Result, Ok, Err}
 use Rattle.ir_memory.specs.declared.fault.MemoryFault.{MemoryFault}
 use Rattle.ir_memory.specs.declared.fault.MemoryFault.TheVariants as faults

@@ -1,4 +1,4 @@
--- For `act_on_binary`, `act_on_load` and others: when an action may be carried out.
+-- For all calls of the crate but `origin` and `act_on_unreachable`: when an action may be carried out.
 use Rattle.std.specs.Prelude.{ℕ, ◌+◌, ◌^◌, ◌<◌, ◌≤◌, ⊤, length}
 use Rattle.std.specs.List.{AllZip}
 use Rattle.ir_eval.specs.Value.{IsInteger, IsWidth}

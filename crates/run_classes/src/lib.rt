@@ -3,7 +3,8 @@
 //!
 //! It stands on the flat actions of `run_flat` and on the classes of `run_actions` and `run_accesses`. It promises that a typed action that
 //! stands at the newest frame makes of frames and memory what the definition of actions says, and that memory is wanted by none but the
-//! actions that may. Calls and returns are not here. Definitions: `specs/Groups`, `specs/May`; `Flat` of `run_flat`.
+//! actions that may. Calls and returns are not here. Definitions: `specs/Groups`, `specs/May`, `specs/Ends`;
+//! `Flat` of `run_flat`.
 //!
 //! ```
 //! // of `%b = add i8 %a, 7`, where the newest frame stands at it, and %a, at place 0, is 250

@@ -57,7 +57,7 @@ fn store_pairs(
 
 /// A load. The action serves the clauses. What `room` has is lost.
 ///
-/// Refused where the load is undefined; then the frames are as they were.
+/// Refused where the load is undefined; only a value of more than one leaf wants memory. A refusal leaves the frames as they were.
 #[inline(always)]
 pub fn act_on_load(
     stack: &mut Stack,
@@ -73,7 +73,7 @@ pub fn act_on_load(
     requires is { _action.now ≡ flat.Load to align address slots }
     requires may { MayAct (length memory.now.list) pools.now _action.now stack.old }
     ensures accesses { (a : Lists) → Accesses (action_of pools.now a _action.now) result stack.old stack.new memory.now memory.now }
-    ensures frames { FramesStay result stack.old stack.new }
+    ensures err { OnErr result (stack.new ≡ stack.old) }
 {
     let place = origin(pools, address);
     let kinds = pools.slots.in_span(slots);
@@ -82,7 +82,8 @@ pub fn act_on_load(
 
 /// A store. The action serves the clauses. What `room` has is lost.
 ///
-/// Refused where the store is undefined; then the frames are as they were.
+/// Refused where the store is undefined; memory is wanted by pointers, and by a value of more than one leaf. A refusal leaves the frames
+/// as they were.
 #[inline(always)]
 pub fn act_on_store(
     stack: &mut Stack,
@@ -98,7 +99,7 @@ pub fn act_on_store(
     requires is { _action.now ≡ flat.Store align address slots value }
     requires may { MayAct (length memory.old.list) pools.now _action.now stack.old }
     ensures accesses { (a : Lists) → Accesses (action_of pools.now a _action.now) result stack.old stack.new memory.old memory.new }
-    ensures frames { FramesStay result stack.old stack.new }
+    ensures err { OnErr result (stack.new ≡ stack.old) }
 {
     let place = origin(pools, address);
     let kinds = pools.slots.in_span(slots);
@@ -108,7 +109,8 @@ pub fn act_on_store(
 
 /// An alloca. The action serves the clauses.
 ///
-/// Refused where the count is poison, or the limit on live bytes would be passed; then the frames are as they were.
+/// Refused where the count is poison, or the limit on live bytes would be passed; then the frames are as they were. It may always want
+/// memory; what frames and memory are then is not told.
 #[inline]
 pub fn act_on_alloca(
     stack: &mut Stack,

@@ -46,8 +46,8 @@ fn add_variables(memory: &mut Memory, spots: &[Spot]) -> Result<bool, AllocError
     Ok(true)
 }
 
-/// Gives the variables of a module their blocks, in order; false exactly where too many bytes would live. It is refused for want of
-/// memory alone. Where it is refused or false, some blocks may be there.
+/// Gives the variables of a module their blocks, in order, in a memory that has no block yet; false exactly where too many bytes would
+/// live. It is refused for want of memory alone. Where it is refused or false, some blocks may be there.
 pub fn place_variables(memory: &mut Memory, names: &Names<'_>) -> Result<bool, AllocError>
     requires { memory.old ≡ no_blocks }
     ensures placed { IfOk result (λ all. Fills all (with_variables (plan (alone (module_of names.now))).variables no_blocks) memory.new) }

@@ -168,9 +168,9 @@ fn main_name(alloc: Global) -> Result<Name, AllocError>
     }
 }
 
-/// The function that a run of the module begins with: the one that the name `main` is bound to, itself or through an alias that is not
-/// local. None where there is none with a body and a type that a run can enter, `i32 ()` or `i32 (i32, ptr)`. It is refused for want of
-/// memory alone.
+/// The function that a run of the module begins with: the one that the name `main`, where it is not local, is bound to, itself or through
+/// an alias. None where there is none with a body that counts and a type that a run can enter, `i32 ()` or `i32 (i32, ptr)`. It is refused
+/// for want of memory alone.
 pub fn main_of(alloc: Global, program: &Checked) -> Result<Option<MainFunction>, AllocError>
     ensures { IfOk result (λ main. option_map main_seen main ≡ main_in (alone (module_of program.now))) }
 {

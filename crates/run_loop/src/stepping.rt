@@ -32,8 +32,8 @@ pub trait Stepping {
         requires { (machine self.old).steps < STEP_LIMIT }
         ensures { StepAnswers result (machine self.old) (machine self.new) (outside (I.left input.old) (I.faults input.old) (O.taken output.old) (O.faults output.old)) (outside (I.left input.new) (I.faults input.new) (O.taken output.new) (O.faults output.new)) };
 
-    /// Some steps in one go, or none, up to the bound, which read nothing and put nothing out: None where the run goes on, or its end. It
-    /// is refused where, at a step's end of the run, a write failed, or where memory was wanted for a step.
+    /// Some steps in one go, or none, up to the bound, each of which goes on, reads nothing and puts nothing out; then nothing, or one step
+    /// more that ends the run or meets a fault, as `step` does: None where the run goes on, or its end.
     fn go_on<I: Source, O: Sink>(
         &mut self,
         bound: u64,

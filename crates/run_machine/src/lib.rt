@@ -6,7 +6,7 @@
 //! with its arguments and its order of refusals included; and the clauses of a machine: that opening, each step and each run are those of the
 //! definitions, with input and output on the objects that are handed in, so that what is answered, printed and read is what the program does:
 //! `Plays` of `run_played`. Definitions: `specs/Constructors`, `Arguments` and `Opens` of opening; `specs/Seen`, how a clause sees a machine,
-//! `OpenedMachine`, what opening gives, `Living`, what holds of a run that is not over, `Stretch`, steps that neither call nor return, `Fresh`, what holds of one that was just opened; `Machine`,
+//! `Opened`, what opening gives, `Living`, what holds of a run that is not over, `Stretch`, steps that neither call nor return, `Fresh`, what holds of one that was just opened; `Machine`,
 //! `Clauses`, `RunClauses`, `Opening` and `Plan` of `run_rules`.
 //!
 //! ```

@@ -12,7 +12,8 @@ use run_passing::ToldEnd;
 use run_rules::{End, RunFault};
 use std::marker::Model;
 
-/// A run of a module, opened. Once a call has answered an end or a fault, every later call answers the same.
+/// A run of a module, opened. Once a call has answered an end or a fault, every later call answers the same; below the limit of steps
+/// alone may a step be asked for.
 #[derive(Drop)]
 pub struct Machine<'m> {
     pub(crate) inside: Inside<'m>,

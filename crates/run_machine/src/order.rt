@@ -85,8 +85,8 @@ fn in_order(
     Ok(found)
 }
 
-/// The constructors of a module in the order in which they are called: by priority, the least first, ties in the order of the list. It is
-/// refused for want of memory alone.
+/// The constructors of a module in the order in which they are called: by priority, the least first, ties in the order of the list; one
+/// whose function is null is passed over. It is refused for want of memory alone.
 pub fn constructors(alloc: Global, names: &Names<'_>) -> Result<Vec<Constructor>, AllocError>
     ensures { IfOk result (λ found. map constructor_seen found.items ≡ constructors (alone (module_of names.now))) }
 {

@@ -1,5 +1,5 @@
--- For `put_ending` and `functions_of_a_checked_module_suit`, and how the code of `decode` reads: that the ids in the blocks of a function are
--- of the function and its arena, and that what they name can stand where it stands. In a checked module they all do.
+-- For `put_parts`, `put_cases`, `put_ending` and `functions_of_a_checked_module_suit`, and how the code of `decode` reads: that the ids in
+-- the blocks of a function are of the function and its arena, and that what they name can stand where it stands. In a checked module they all do.
 use Rattle.std.specs.Prelude.{◌≡◌, ℕ, ◌<◌, ⊤, true, List, All, IfSome, length}
 use Rattle.module_arena.specs.declared.entry.Block.{Block}
 use Rattle.module_arena.specs.declared.instruction.Call.{Call}

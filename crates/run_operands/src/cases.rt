@@ -56,8 +56,8 @@ fn cases_of(
     Ok(done)
 }
 
-/// Puts the cases of a `switch` that ends a block among the cases, in order. It is refused for want of memory alone; then pools may have
-/// grown.
+/// Puts the cases of a `switch` that ends a block among the cases, in order. It is refused for want of memory alone; then what
+/// the pools have is not told.
 pub fn put_cases(
     scope: &FunctionScope<'_, '_>,
     pools: &mut Pools,

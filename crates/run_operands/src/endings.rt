@@ -96,8 +96,8 @@ fn put_switch(
     })
 }
 
-/// The action of the end of a block, with what it points to in the pools. It is refused for want of memory alone; then pools may have
-/// grown.
+/// The action of the end of a block, with what it points to in the pools. It is refused for want of memory alone; then what
+/// the pools have is not told.
 pub fn put_ending(
     scope: &FunctionScope<'_, '_>,
     pools: &mut Pools,

@@ -32,7 +32,7 @@ fn arms_of(alloc: Global, first: &[Origin], second: &[Origin]) -> Result<Vec<Arm
 }
 
 /// Puts the leaves of both operands of a `select` among the arms, a leaf of one beside that of the other. It is refused for want of memory
-/// alone; then pools may have grown.
+/// alone; then what the pools have is not told.
 pub fn put_arms(
     scope: &FunctionScope<'_, '_>,
     pools: &mut Pools,
@@ -75,7 +75,7 @@ fn parts_of(alloc: Global, slots: &[Slot], leaves: &[Origin]) -> Result<Vec<Froz
 }
 
 /// Puts the leaves of the operand of a `freeze` among the parts, beside each whether it is a pointer. It is refused for want of memory
-/// alone; then pools may have grown.
+/// alone; then what the pools have is not told.
 pub fn put_parts(
     scope: &FunctionScope<'_, '_>,
     pools: &mut Pools,

@@ -4,7 +4,7 @@
 //! It stands on the pools of `run_flat`, the scopes of `run_scopes`, the slots of `run_slots` and the shapes of `run_shapes`. It promises that each operand, callee,
 //! part, way, term, arm, case and end that is put into the pools of a body is exactly what look-up makes of it in a run of the module alone, and that
 //! pools only grow. Definitions: `specs/Steps`, what one index leads over; `specs/Open`; `specs/Suits`, what the ids of a function name;
-//! `specs/Endings`; `Grown`, `Flat` of `run_flat`; `Scopes`, `Ways` of `run_scopes`; `FunctionScope`, `Resolve`, `Displace` of `run_rules`.
+//! `specs/Pairs`, `specs/Endings`; `Grown`, `Flat` of `run_flat`; `Scopes`, `Ways` of `run_scopes`; `FunctionScope`, `Resolve`, `Displace` of `run_rules`.
 //!
 //! ```
 //! put_known(&mut pools, Scalar::Int(7))? // LeafAt::Known(0), where nothing was known before

@@ -19,7 +19,8 @@ pub fn flush<O: Sink>(held: &mut Output, sink: &mut O) -> Result<(), RunFault>
     }
 }
 
-/// Puts out what an instruction writes. A fault tells that a write failed; then what was held before is held still.
+/// Puts out what an instruction writes. A fault tells that a write failed; then a front of what was held and of these bytes is written,
+/// and what was held before is held still.
 #[inline]
 pub fn put<O: Sink>(held: &mut Output, bytes: &[u8], sink: &mut O) -> Result<(), RunFault>
     ensures { Puts result bytes.now held.old held.new (O.taken sink.old) (O.faults sink.old) (O.taken sink.new) (O.faults sink.new) }
@@ -33,7 +34,8 @@ pub fn put<O: Sink>(held: &mut Output, bytes: &[u8], sink: &mut O) -> Result<(),
     }
 }
 
-/// The run is over with this end, so all that was put out is written.
+/// The run is over with this end, which comes back: all that was put out is written. A fault tells that a write failed; then a front of
+/// it is written, and all of it is held still.
 pub fn finish<O: Sink>(end: End, held: &mut Output, sink: &mut O) -> Result<End, RunFault>
     ensures { Finishes end result held.old held.new (O.taken sink.old) (O.faults sink.old) (O.taken sink.new) (O.faults sink.new) }
 {

@@ -1,4 +1,4 @@
--- For `prepare`, `head` and `body` of `Program`: the functions of a module that is run, by their numbers.
+-- For `new`, `prepare`, `head` and `body` of `Program`: the functions of a module that is run, by their numbers.
 use Rattle.std.specs.Prelude.{◌≡◌, ℕ, List, replicate, map, length, slice_get, Option, Some, None}
 use Rattle.module_arena.specs.declared.entry.Function.{Function}
 use Rattle.module_arena.specs.Lists.{Lists}

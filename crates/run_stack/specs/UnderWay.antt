@@ -1,4 +1,4 @@
--- For `function`, `leave`, `push_alloca` and `pop_alloca` of `Stack`: the functions under way, as a clause sees them.
+-- For all calls of `Stack`: the functions under way, as a clause sees them.
 use Rattle.std.specs.Prelude.{ℕ, ◌+◌, ◌≤◌, ⊤, List, [], ◌∷◌, length, Option, Some, None}
 use Rattle.ir_eval.specs.declared.value.Pointer.{Pointer}
 use Rattle.ir_eval.specs.declared.value.Scalar.{Scalar}

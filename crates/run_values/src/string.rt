@@ -109,8 +109,7 @@ fn inside_count(bytes: &[u8]) -> usize
     count + single_count(&bytes[count..])
 }
 
-/// The string at a pointer, its bytes before the first zero, where it can be told as it lies in memory: in a block that may hold
-/// neither poison nor pieces of pointers. None elsewhere, and where the string is undefined.
+/// The string at a pointer, its bytes before the first zero, where it can be told as it lies in memory. None says nothing of it.
 pub fn plain_string(memory: &Memory, pointer: Pointer) -> Option<&[u8]>
     requires { IsKnown memory.now.list pointer }
     ensures { IfSome result (λ bytes. string_at memory.now pointer ≡ Ok bytes.now) }

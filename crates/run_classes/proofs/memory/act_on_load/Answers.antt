@@ -4,7 +4,7 @@ use Rattle.run_accesses.specs.Done.{Accesses}
 use Rattle.run_flat.specs.declared.action.Action.{Action}
 use Rattle.run_flat.specs.Flat.{IsWithin}
 use Rattle.run_classes.specs.May.{MayAct}
-use Rattle.run_classes.proofs.Seen.{frames_stay, loadable, loaded_so}
+use Rattle.run_classes.proofs.Seen.{loadable, loaded_so}
 use Rattle.run_classes.proofs.memory.act_on_load.Goals as goal
 
 pub origin-place-requires : goal.origin-place-requires
@@ -29,6 +29,3 @@ returns-clause-accesses c = λ lists.
     let m = a.memory.now in
     subst (λ (x : actions.Action). Accesses x c.load.result a.stack.now c.load.new.stack m m)
     (loaded_so a.pools.now lists a._action.now a.to a.align a.address a.slots c.origin-place.result c.in_span-kinds.result.now c.requires.is c.origin-place.ensures c.in_span-kinds.ensures) c.load.ensures.loads
-
-pub returns-clause-frames : goal.returns-clause-frames
-returns-clause-frames c = frames_stay c.load.result c.args.stack.now c.load.new.stack c.load.ensures.err

@@ -4,7 +4,7 @@ use Rattle.run_accesses.specs.Done.{Accesses}
 use Rattle.run_flat.specs.declared.action.Action.{Action}
 use Rattle.run_flat.specs.Flat.{IsWithin}
 use Rattle.run_classes.specs.May.{MayAct}
-use Rattle.run_classes.proofs.Seen.{frames_stay, stored_so, stored_to}
+use Rattle.run_classes.proofs.Seen.{stored_so, stored_to}
 use Rattle.run_classes.proofs.memory.act_on_store.Goals as goal
 
 pub origin-place-requires : goal.origin-place-requires
@@ -37,6 +37,3 @@ returns-clause-accesses c = λ lists.
     let leaves = c.in_span-leaves in
     subst (λ (x : actions.Action). Accesses x c.store_pairs.result a.stack.now c.store_pairs.new.stack a.memory.now c.store_pairs.new.memory)
     (stored_so a.pools.now lists a._action.now a.align a.address a.slots a.value place.result kinds.result.now leaves.result.now c.requires.is place.ensures kinds.ensures leaves.ensures) c.store_pairs.ensures.stores
-
-pub returns-clause-frames : goal.returns-clause-frames
-returns-clause-frames c = frames_stay c.store_pairs.result c.args.stack.now c.store_pairs.new.stack c.store_pairs.ensures.err
