@@ -1,5 +1,5 @@
--- For `build_instruction` and `build_ending`: what the body of a function is built from: types within the limits,
--- entries that are there, and locals that are called so.
+-- For `build_instruction`, `build_ending`, `items_without_a_break_are_buildable` and all that builds items: what the body
+-- of a function is built from: types within the limits, entries that are there, and locals that are called so.
 use Rattle.std.specs.Prelude.{◌^◌, ◌<◌, ◌-◌, ◌+◌, List, ◌++◌, map, flat_map, filter_map, length, All, Contains, Option, Some, None}
 use Rattle.std.specs.List.{sum_by}
 use Rattle.ir_terminals.specs.declared.values.Integer.{Integer}

@@ -1,5 +1,5 @@
--- For `build_structs`, `declare_items`, `initialise_items` and `set_targets`: what the entries of a module are built
--- from.
+-- For `build_structs`, `declare_items`, `initialise_items`, `set_targets` and `items_without_a_break_are_buildable`: what
+-- the entries of a module are built from.
 use Rattle.std.specs.Prelude.{All, Option, Some, None}
 use Rattle.ir_constants.specs.Tree.{ConstantTree}
 use Rattle.ir_syntax.specs.Tree.{BodyTree, OpaqueBody, PlainBody, PackedBody, ParameterTree, ItemTree, Struct, Variable, Alias, Declaration, Definition}

@@ -1,5 +1,5 @@
--- For `what_is_read_is_narrow` and `resolve`: what the phrases of a text ask for beyond its tree: integer types of 1 to
--- 128 bits, and no result of a store.
+-- For `what_is_read_is_narrow`, `items_without_a_break_are_buildable`, `build_instruction` and `resolve`: what the phrases
+-- of a text ask for beyond its tree: integer types of 1 to 128 bits, and no result of a store.
 use Rattle.std.specs.Prelude.{◌≡◌, ℕ, ◌≤◌, List, All, Option, Some, None}
 use Rattle.ir_tables.specs.declared.width.TheConstants.{WIDEST}
 use Rattle.ir_constants.specs.Tree.{TypeTree, IntegerType, PointerType, VoidType, ArrayType, StructType, NamedType, TypeTrees, no_types, more_types, ConstantTree, IntegerConstant, SimpleConstant, AddressConstant, BytesConstant, ListConstant, ElementAddress, Conversion, Arithmetic, ConstantTrees, no_constants, more_constants, TypedConstantTree, ValueTree, LocalValue, ConstantValue, TypedValueTree}

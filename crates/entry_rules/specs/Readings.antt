@@ -1,4 +1,4 @@
--- For `initialiser_fits`, and how the code reads: what is asked of entries, by the constants and ids of the arena.
+-- For `initialiser_takes_no_intrinsic`, `initialiser_fits` and `variable_types_suit`, and how the code reads: what is asked of entries, by the constants and ids of the arena.
 use Rattle.std.specs.Prelude.{ℕ, ◌<◌, Bool, true, false, not, ◌==◌, [], All, length, Option, option_to_list}
 use Rattle.std.specs.Option.{option_map_or}
 use Rattle.module_arena.specs.declared.constant.Const.{Const}

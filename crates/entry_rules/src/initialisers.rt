@@ -92,7 +92,7 @@ fn is_list_variable(judge: &Judge<'_>, ty: TypeId, initialiser: Option<ConstId>)
     }
 }
 
-/// Whether the initialiser takes the address of no intrinsic.
+/// Whether the initialiser takes the address of no intrinsic. True where there is none.
 pub fn initialiser_takes_no_intrinsic(
     judge: &Judge<'_>,
     ty: TypeId,
@@ -107,7 +107,7 @@ pub fn initialiser_takes_no_intrinsic(
     }
 }
 
-/// Whether the initialiser can stand where that type is written.
+/// Whether the initialiser can stand where that type is written. True where there is none.
 pub fn initialiser_fits(judge: &Judge<'_>, ty: TypeId, initialiser: Option<ConstId>) -> bool
     requires ty { ty < length judge.now.table.types }
     requires initialiser { KnowsConstant judge.now initialiser }
@@ -119,7 +119,8 @@ pub fn initialiser_fits(judge: &Judge<'_>, ty: TypeId, initialiser: Option<Const
     }
 }
 
-/// Whether a variable of that type lies in memory where it is defined, and `void` is written nowhere.
+/// Whether a variable of that type lies in memory where it is defined, the operands of constant expressions in its initialiser are of
+/// types that are handed on, source types lie in memory, and `void` is written nowhere. Without an initialiser only the last is asked.
 pub fn variable_types_suit(judge: &Judge<'_>, ty: TypeId, initialiser: Option<ConstId>) -> bool
     requires ty { ty < length judge.now.table.types }
     requires initialiser { KnowsConstant judge.now initialiser }
@@ -132,7 +133,8 @@ pub fn variable_types_suit(judge: &Judge<'_>, ty: TypeId, initialiser: Option<Co
     }
 }
 
-/// Whether a common entry is a variable, not constant, that starts at zero.
+/// Whether a common entry is a variable, not constant, whose initialiser is 0, `false`, `null` or `zeroinitializer`; true of any other
+/// linkage.
 pub fn common_suits(judge: &Judge<'_>, variable: &Variable) -> bool
     requires { KnowsVariable (length judge.now.table.types) (length judge.now.constants) variable.now }
     ensures { result ≡ rules.common_variable_suits (variable_in judge.now variable.now) }

@@ -156,7 +156,7 @@ fn is_called_target(arena: &Arena, target: Option<GlobalId>) -> bool
     }
 }
 
-/// Whether an alias has no name of an intrinsic, and is of none.
+/// Whether an alias has no name that begins with `llvm.`, and is of no function with such a name.
 pub fn alias_names_suit(arena: &Arena, alias: &Alias) -> bool
     requires { KnowsAlias (length arena.now.table.types) (counts arena.now) alias.now }
     ensures { result ≡ rules.alias_names_suit (module_of arena.now) (alias_in arena.now alias.now) }
@@ -164,7 +164,7 @@ pub fn alias_names_suit(arena: &Arena, alias: &Alias) -> bool
     !is_llvm_name(alias.name.text().bytes()) & !is_called_target(arena, alias.target)
 }
 
-/// Whether a function with the name of an intrinsic is declared with its type.
+/// Whether a function whose name begins with `llvm.` is an intrinsic that is declared, with its type.
 pub fn function_name_suits(arena: &Arena, id: FunctionId) -> bool
     requires { id < length arena.now.functions }
     ensures { (f : modules.Function) → slice_get (module_of arena.now).functions id ≡ Some f → result ≡ rules.function_name_suits f }

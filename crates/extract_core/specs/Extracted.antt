@@ -1,4 +1,4 @@
--- For `extract` and `extraction_keeps_modules`: the module of the kept definitions, and of declarations for what they name.
+-- For `extract`, `kept_linkage`, `fates_give_the_part` and `extraction_keeps_modules`: the module of the kept definitions, and of declarations for what they name.
 use Rattle.std.specs.Prelude.{Bool, not, ◌&&◌, bytes_eq, List, ◌++◌, map, filter, filter_map, flat_map, Option, Some, None, if◌then◌else◌}
 use Rattle.std.specs.List.{list_any}
 use Rattle.ir_tables.specs.declared.linkage.Linkage.{Linkage}

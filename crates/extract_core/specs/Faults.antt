@@ -1,4 +1,4 @@
--- For `choose`: why it refuses.
+-- For `choose` and `extract`: why they refuse.
 use Rattle.std.specs.Prelude.{◌≡◌, ⊤, Some}
 use Rattle.module_arena.specs.Module.{Module}
 use Rattle.extract_core.specs.declared.selection.ExtractFault.{ExtractFault}

@@ -1,4 +1,4 @@
--- For `choose` and `named_by_kept`: what is told of each entry, by kind and in the order of the module.
+-- For `choose`, `named_by_kept` and `all_fates`: what is told of each entry, by kind and in the order of the module.
 use Rattle.std.specs.Prelude.{◌≡◌, length, map}
 use Rattle.module_arena.specs.Lists.{Lists}
 use Rattle.module_arena.specs.Module.{Module}

@@ -1,4 +1,4 @@
--- For `no_such_symbol` and `choose`: which definitions of a module are chosen, and which are kept.
+-- For `no_such_symbol`, `add_name`, `choosing_ends`, `choose` and `extract`: which definitions of a module are chosen, and which are kept.
 use Rattle.std.specs.Prelude.{ℕ, zero, suc, Bool, not, ◌&&◌, List, [], ◌∷◌, ◌++◌, map, filter_map, flat_map, length, find, Option, Some, None, is_some, bytes_eq, if◌then◌else◌}
 use Rattle.std.specs.List.{list_any}
 use Rattle.std.specs.Option.{option_or, option_map_or}

@@ -11,7 +11,8 @@ use crate::local_ids::LocalIds;
 use ir_instructions::WrittenBlock;
 use std::alloc::{AllocError, Global};
 
-/// Gives the next ids to the block and to the results of its instructions, and hands back the next number behind them.
+/// Gives the next ids to the block and to the results of its instructions, and hands back the next number behind them. Only memory may be
+/// wanting.
 #[tactic(auto, using(crate::proofs::Gathered::behind_one_le))]
 pub fn add_block<'a>(
     values: &mut LocalIds<'a>,

@@ -97,7 +97,7 @@ impl<'a> LocalIds<'a> {
         Ok(id)
     }
 
-    /// Gives the next id to what is called so where the next number is this one.
+    /// Gives the next id to what is called so where the next number is this one. Only memory may be wanting.
     #[inline(always)]
     pub fn add(
         &mut self,

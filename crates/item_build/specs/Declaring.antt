@@ -1,4 +1,4 @@
--- For `declare_items`: items that are declared in a module, one after the other, and what is asked for of each.
+-- For `declare_items`, `initialise_items` and `set_targets`: items that are declared in a module, one after the other, and what is asked for of each.
 use Rattle.std.specs.Prelude.{◌≡◌, List, map, filter_map, length, Option, Some, None}
 use Rattle.ir_terminals.specs.declared.values.PlacedName.{PlacedName}
 use Rattle.ir_syntax.specs.Tree.{ItemTree, Variable, Alias, Declaration, Definition}

@@ -1,4 +1,4 @@
--- For `build_structs`: structs of which some have no body yet.
+-- For `build_structs`, and `set_head`, `copy_part` and `copy_structs` of the copies: structs of which some have no body yet.
 use Rattle.std.specs.Prelude.{◌≡◌, ◌⊎◌, ℕ, ◌<◌, List, map, length, slice_get, slice_index_or, All, Option, Some, None}
 use Rattle.ir_syntax.specs.Tree.{BodyTree}
 use Rattle.type_table.specs.declared.ir_type.StructBody.{StructBody}

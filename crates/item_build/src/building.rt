@@ -58,7 +58,7 @@ fn define_structs(builder: &mut Builder, alloc: Global, items: &[Item]) -> Resul
 }
 
 /// Names the structs of a text, in order, and gives each its body, where the arena has no types: in the order of these numbers first, and
-/// then in that of the text. Where the order has each struct behind those that it holds, the time is linear.
+/// then in that of the text. Where the order has each struct behind those that it holds, the time is linear. Only memory may be wanting.
 pub fn build_structs(
     builder: &mut Builder,
     alloc: Global,

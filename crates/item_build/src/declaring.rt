@@ -50,7 +50,8 @@ fn declare_item(builder: &mut Builder, alloc: Global, item: &Item) -> Result<(),
     Ok(())
 }
 
-/// Declares the variables, aliases and functions of a text, in order, where the arena has its structs and no entries.
+/// Declares the variables, aliases and functions of a text, in order, where the arena has its structs and no entries. Only memory may be
+/// wanting.
 pub fn declare_items(builder: &mut Builder, alloc: Global, items: &[Item]) -> Result<(), AllocError>
     requires buildable { AreBuildable (items_view items.now) }
     requires few { AreFew (counts_in (items_view items.now)) }

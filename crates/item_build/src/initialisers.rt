@@ -69,7 +69,7 @@ fn initialise_in(
     }
 }
 
-/// Gives the variables of a text, which are declared, their initialisers.
+/// Gives the variables of a text, which are declared, their initialisers. Only memory may be wanting.
 pub fn initialise_items(
     builder: &mut Builder,
     alloc: Global,

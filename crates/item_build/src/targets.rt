@@ -40,7 +40,7 @@ fn set_target_in(
     }
 }
 
-/// Gives the aliases of a text, which are declared, their targets.
+/// Gives the aliases of a text, which are declared, their targets. Only memory may be wanting.
 pub fn set_targets(builder: &mut Builder, alloc: Global, items: &[Item]) -> Result<(), AllocError>
     requires buildable { AreBuildable (items_view items.now) }
     requires few { AreFew (counts_in (items_view items.now)) }

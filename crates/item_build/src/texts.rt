@@ -79,7 +79,7 @@ fn triple_text(alloc: Global, items: &[Item]) -> Result<Option<Text>, AllocError
     Ok(None)
 }
 
-/// Gives the module the three texts of the items.
+/// Gives the module the three texts of the items. Only memory may be wanting.
 pub fn set_texts(builder: &mut Builder, alloc: Global, items: &[Item]) -> Result<(), AllocError>
     ensures module { OnOk result (module_of builder.new.arena
         ≡ with_texts (module_of builder.old.arena) (text_in source_in (items_view items.now)) (text_in layout_in (items_view items.now)) (text_in triple_in (items_view items.now))) }

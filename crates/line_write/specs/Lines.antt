@@ -1,5 +1,5 @@
--- For `put_instruction` and `put_ending`: the lines of a body by the ids of an arena, and what must hold of them to be
--- spelled as they are.
+-- For `put_instruction`, `put_ending`, `instruction_opcode` and `ending_opcode`: the lines of a body by the ids of an
+-- arena, and what must hold of them to be spelled as they are.
 use Rattle.std.specs.Prelude.{◌<◌, length, map, All, IfSome}
 use Rattle.std.specs.Option.{option_map}
 use Rattle.type_table.specs.Types.{trees}

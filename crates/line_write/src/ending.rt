@@ -98,7 +98,7 @@ fn put_branch(
     put_block(operands, else_to)
 }
 
-/// Appends the end of a block of a function.
+/// Appends the end of a block of a function. Only memory may be wanting.
 pub fn put_ending(
     operands: &mut Vec<u64>,
     numbering: &Numbering<'_>,

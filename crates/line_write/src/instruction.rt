@@ -381,7 +381,7 @@ fn flags_of(instruction: &Inst) -> Option<Flags>
     }
 }
 
-/// Appends an instruction of the function.
+/// Appends an instruction of the function. Only memory may be wanting.
 pub fn put_instruction(
     operands: &mut Vec<u64>,
     numbering: &Numbering<'_>,

@@ -1,4 +1,4 @@
--- For `bind_names` and `equal_look_ups_give_equal_runs`: what a name means in a part.
+-- For `bind_names`, `symbol_behind` and `equal_look_ups_give_equal_runs`: what a name means in a part.
 use Rattle.std.specs.Prelude.{ℕ, Bool, not, ◌&&◌, List, Option, Some, None, is_some, if◌then◌else◌}
 use Rattle.std.specs.List.{list_all}
 use Rattle.std.specs.Option.{option_map_or}

@@ -1,4 +1,4 @@
--- For `resolve_symbols`: why parts cannot be linked: two entries of one name that do not go together.
+-- For `resolve_symbols` and `link`: why parts cannot be linked: two entries of one name that do not go together.
 use Rattle.std.specs.Prelude.{◌≡◌, ℕ, ◌<◌, Bool, true, not, ◌&&◌, List, [], ◌∷◌, map, filter, flat_map, Contains, Option}
 use Rattle.module_arena.specs.Module.{Bytes, Module}
 pub use Rattle.linkage_rules.specs.declared.conflict.ConflictKind.{ConflictKind}

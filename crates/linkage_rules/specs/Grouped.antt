@@ -1,5 +1,5 @@
--- For `resolve_symbols`, the calls of `Bindings` and the private functions: entries by their ids, filed under their
--- symbols.
+-- For `resolve_symbols`, the calls of `Bindings`, `head_of`, `all_ids` and `push_part`: entries by their ids, filed under
+-- their symbols.
 use Rattle.std.specs.Prelude.{◌≡◌, ℕ, ◌+◌, Bool, true, false, not, ◌&&◌, length, List, [], ◌∷◌, ◌++◌, map, filter, flat_map, All, Option, Some, None, unwrap_or, IfSome, find, position, slice_get, option_and_then, if◌then◌else◌}
 use Rattle.std.specs.Option.{option_map, option_map_or}
 use Rattle.std.specs.Map.{lookup}

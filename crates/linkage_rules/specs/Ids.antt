@@ -1,4 +1,4 @@
--- For `head_of`, `name` and `is_definition`: the entries of parts by their ids.
+-- For `head_of`, the calls of `EntryId`, `Bindings::kind`, `resolve_symbols` and all other calls over parts: the entries of parts by their ids.
 use Rattle.std.specs.Prelude.{◌≡◌, ℕ, List, [], map, slice_get, Option, Some, None, unwrap_or, false}
 use Rattle.std.specs.Option.{option_map}
 use Rattle.ir_tables.specs.declared.linkage.Linkage.TheVariants.{External}

@@ -52,7 +52,7 @@ impl Bindings {
     }
 
     /// Where a symbol is defined: the definition of greatest rank, among commons the largest, then the first. Of an
-    /// appended symbol it is the first (LangRef, "Linkage Types").
+    /// appended symbol it is the first (LangRef, "Linkage Types"). None exactly where no part defines it.
     pub fn home(&self, symbol: &Symbol) -> Option<EntryId>
         ensures { result ≡ home_in self.now.groups self.now.homes symbol.now }
     {
@@ -69,7 +69,7 @@ impl Bindings {
 }
 
 /// Resolves the symbols of parts that are linked, or run together. Parts are refused with their first conflict: the
-/// first in symbol order, then the least kind, then the least pair of parts (LangRef, "Linkage Types").
+/// first in symbol order, then the least kind, then the least pair of parts (LangRef, "Linkage Types"), or memory ran out.
 pub fn resolve_symbols(alloc: Global, parts: &[Checked]) -> Result<Bindings, SymbolFault>
     ensures agree { IfOk result (λ _. first_conflict (modules parts.now) ≡ None) }
     ensures symbols { IfOk result (λ b. b.symbols ≡ symbols (modules parts.now)) }

@@ -1,4 +1,4 @@
--- For `room_of` and `place_symbols`: what is told of where variables and functions stand.
+-- For `joined_length`, `room_of` and `place_symbols`: what is told of where variables and functions stand.
 use Rattle.std.specs.Prelude.{◌≡◌, ℕ, List, map, ◌-◌, ◌^◌, max, min, Option, Some, None, filter_map, if◌then◌else◌}
 use Rattle.std.specs.Option.{option_map}
 use Rattle.module_arena.specs.Module.{Module}

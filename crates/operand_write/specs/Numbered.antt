@@ -1,4 +1,4 @@
--- For `put_operand`, `put_value` and all that puts by a `Numbering`: what the ids of an arena stand for as operands.
+-- For `put_operand`, `put_value` and all calls by a `Numbering`: what the ids of an arena stand for as operands.
 use Rattle.std.specs.Prelude.{◌≡◌, ℕ, List}
 use Rattle.type_table.specs.Types.{trees}
 use Rattle.module_arena.specs.declared.constant.TypedConst.{TypedConst}

@@ -1,4 +1,4 @@
--- For `put_typed`, `put_value` and `put_operand`, and how the code of `put_constant` reads: the forms of constants, and when values stand in
+-- For `put_typed`, `put_value`, `put_value_at`, `put_operand`, `put_operands` and `put_incoming`, and how the code of `put_constant` reads: the forms of constants, and when values stand in
 -- operands as they are.
 use Rattle.std.specs.Prelude.{ℕ, ◌<◌, List, [], ◌∷◌, length, drop, ⊤}
 use Rattle.std.specs.List.{IsDistinct}

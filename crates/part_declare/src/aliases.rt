@@ -177,7 +177,8 @@ fn declare_alias(
     }
 }
 
-/// Declares what the aliases become by these fates, and gives their new ids, in their order.
+/// Declares what the aliases become by these fates, none of it defined yet, and gives their new ids, in their order; one that is left out
+/// has none. Only memory may be wanting.
 pub fn declare_aliases(
     copier: &Copier,
     alloc: Global,

@@ -48,7 +48,8 @@ fn copy_texts(alloc: Global, from: &Arena, into: &mut Builder) -> Result<(), All
     Ok(())
 }
 
-/// Copies what stands before the entries into an arena in which nothing is: the texts, the structs and all types.
+/// Copies what stands before the entries into an arena in which nothing is: the texts, the structs and all types. Only memory may be
+/// wanting.
 pub fn copy_ground(
     copier: &mut Copier,
     alloc: Global,
@@ -70,7 +71,7 @@ pub fn copy_ground(
 }
 
 /// Declares what all entries become, and tells the copier their new ids. Nothing is defined yet, since initialisers and
-/// bodies may name entries that stand behind them.
+/// bodies may name entries that stand behind them. Only memory may be wanting.
 pub fn declare_entries(
     copier: &mut Copier,
     alloc: Global,

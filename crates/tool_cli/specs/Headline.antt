@@ -1,4 +1,4 @@
--- For `run_tool`: what `llvm-link` comes to where its inputs stand for parts.
+-- For `run_tool` and `inputs_are_readable`: what `llvm-link` comes to where its inputs stand for parts.
 use Rattle.std.specs.Prelude.{◌≡◌, ◌⊎◌, ◌↔◌, ◌<◌, ◌/◌, ℕ, Bool, List, [], ◌∷◌, length, Option, Some, None, Ok}
 use Rattle.ir_base.specs.Files.{Named}
 use Rattle.bit_stream.specs.declared.item.TheConstants.{WORDS_LIMIT}

@@ -1,4 +1,4 @@
--- For `run_tool`: whether inputs are texts of modules, or bitcode that spells them, judged in the order of the words.
+-- For `run_tool`, `accepted_is_not_refused` and `inputs_are_readable`: whether inputs are texts of modules, or bitcode that spells them, judged in the order of the words.
 use Rattle.std.specs.Prelude.{◌≡◌, ◌⊎◌, ◌==◌, ◌≤◌, ℕ, Bool, List, [], ◌∷◌, ◌++◌, codes, length, Some, None, Err}
 use Rattle.std.specs.Bool.{MatchBool}
 use Rattle.std.specs.Fmt.{decimal}

@@ -1,4 +1,4 @@
--- For `run_tool`: the result of a command over its inputs, which is what it writes.
+-- For `run_tool` and `accepted_is_not_refused`: the result of a command over its inputs, which is what it writes.
 use Rattle.std.specs.Prelude.{◌≡◌, ℕ, Bool, true, false, List, [], ◌∷◌, None}
 use Rattle.std.specs.Bool.{MatchBool}
 use Rattle.bit_tree.specs.Stream.{StreamTree, Stream}

@@ -43,7 +43,8 @@ fn ended_of<F: Files, I: Source, O: Sink>(
 /// Runs the tool that the words name, and answers the status and what it stands for.
 ///
 /// `words` are those of the command line behind the program's own name. They are read first, then all inputs
-/// whole, in the order of the words; then the tool does its work. The first refusal is the answer.
+/// whole, in the order of the words; then the tool does its work. The first refusal is the answer. The line of the end, if it has
+/// one, is added to `errors`, or a front of it where a write of that failed.
 pub fn run_tool<F: Files, I: Source, O: Sink, E: Sink>(
     alloc: Global,
     words: &[Text],

@@ -1,4 +1,4 @@
--- For `status_of` and `tell`: the status of an end, and the line that tells it.
+-- For `status_of`, `tell`, `end_without_words` and `run_tool`: the status of an end, and the line that tells it.
 use Rattle.std.specs.Prelude.{ℕ, List, [], ◌∷◌, ◌++◌, codes, Some, None}
 use Rattle.std.specs.Fmt.{decimal}
 use Rattle.ir_base.specs.declared.place.Place.{Place}

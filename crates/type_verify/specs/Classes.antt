@@ -1,5 +1,5 @@
--- For `classes` of `TypeJudge`: which types are written alike. The class of a type is the number of the first of those
--- written as it is, among the types that are not written as an earlier one.
+-- For `classes` of `TypeJudge`, and how the code reads: which types are written alike. The code gives a type the number of
+-- the first of those written as it is, among the types that are not written as an earlier one.
 use Rattle.std.specs.Prelude.{◌≡◌, ℕ, ◌<◌, ◌==◌, List, map, length, slice_index_or, slice_get, Some}
 use Rattle.std.specs.List.{IsDistinct}
 use Rattle.type_table.specs.Keys.{type_eq}

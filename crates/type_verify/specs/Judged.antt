@@ -1,4 +1,5 @@
--- For `judge_module`, `judge_global` and `judge_instruction`: what an answer says of a list of demands.
+-- For all judges of entities, of instructions and of ends, and of uses (`judge_module`, `judge_global`,
+-- `judge_instruction`, ..): what an answer says of a list of demands.
 use Rattle.std.specs.Prelude.{ℕ, not, List, [], ◌∷◌, find, ⊤, Option, Result, Ok, Err}
 use Rattle.std.specs.Option.{option_map}
 use Rattle.module_arena.specs.EntityView.{entity_view}

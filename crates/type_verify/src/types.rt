@@ -226,7 +226,8 @@ impl<'a> TypeJudge<'a> {
         }
     }
 
-    /// The part of the type that an index leads to: its type, and its number where that is written.
+    /// The part of the type that an index leads to, where it leads to one. The index is told by its type, and by its number where that is
+    /// written.
     pub fn indexed(&self, ty: TypeId, index: TypeId, number: Option<u128>) -> Option<TypeId>
         requires own { ty < length self.now.types }
         requires others { index < length self.now.types }
