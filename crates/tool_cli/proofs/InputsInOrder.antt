@@ -12,7 +12,7 @@ use Rattle.command_line.specs.Options.{is_dash}
 use Rattle.tool_ends.specs.declared.ended.Ended.{Ended}
 use Rattle.tool_ends.specs.declared.ended.Ended.TheVariants.{CannotRead, InputTooLarge, Memory}
 use Rattle.tool_cli.specs.Inputs.{content, has_stdin, stdin_after, Tells, TellsAll, input_read, with_text, read_on, texts_read}
-use Rattle.tool_cli.specs.Causes.{IsEmptied, HasRead, GaveUp, Refuses, RefusesOne}
+use Rattle.tool_cli.specs.Causes.{IsEmptied, HasRead, GaveUp, MayPassTogether, Refuses, RefusesOne}
 use Rattle.tool_cli.specs.Reads.{LeavesFiles}
 use Rattle.tool_cli.specs.World.{found_input}
 use Rattle.tool_cli.proofs.Contents.{content_read, input_ok, input_over, left_told, refusal_told}
@@ -222,6 +222,6 @@ unread_on names i name before mid now left_before left_mid h e same stdin none =
     same (false_from_ne_true (is_dash name) (λ dash. let has = sym (stdin_among names name (i, (h, e)) dash) ∙ none in absurd (let x = has in cc)))
     ∙ unread_so_far names (drop i names) before mid left_before left_mid stdin none
 
-pub over_one : (names : List (List ℕ)) (name : List ℕ) (contents : Option Named) (left : Option (List ℕ)) (p q : Type 0) (ended : Ended) → IsAmong names name → (ended ≡ InputTooLarge name LARGEST_TOGETHER) ⊎ (ended ≡ Memory) → RefusesOne (found_input contents left p q) names ended
-over_one names name contents left p q ended among (inl is) = rw is (among, inr refl)
-over_one names name contents left p q ended among (inr none) = rw none tt
+pub over_one : (names : List (List ℕ)) (name : List ℕ) (contents : Option Named) (left : Option (List ℕ)) (p q : Type 0) (ended : Ended) → IsAmong names name → MayPassTogether contents left names name → (ended ≡ InputTooLarge name LARGEST_TOGETHER) ⊎ (ended ≡ Memory) → RefusesOne (found_input contents left p q) names ended
+over_one names name contents left p q ended among passed (inl is) = rw is (among, inr (refl, passed))
+over_one names name contents left p q ended among passed (inr none) = rw none tt

@@ -1,5 +1,6 @@
 pub mod Contents
 pub mod InputsInOrder
+pub mod Together
 pub mod Delivered
 pub mod Done
 pub mod Linked

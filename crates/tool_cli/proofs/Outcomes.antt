@@ -62,7 +62,7 @@ cause_of_unread own named names contents left i f ended same why name e =
     let cause : RefusesOne (found_input contents left i f) named (CannotRead name) = rw same (rw e at why) in
     (inl cause.0, cause.1)
 
-pub cause_of_large : (named names : List (List ℕ)) (contents : Option Named) (left : Option (List ℕ)) (i f : Type 0) (ended : Ended) → named ≡ names → RefusesOne (found_input contents left i f) names ended → (name : List ℕ) (limit : ℕ) → ended ≡ InputTooLarge name limit → IsAmong named name × IsPassed contents left name limit
+pub cause_of_large : (named names : List (List ℕ)) (contents : Option Named) (left : Option (List ℕ)) (i f : Type 0) (ended : Ended) → named ≡ names → RefusesOne (found_input contents left i f) names ended → (name : List ℕ) (limit : ℕ) → ended ≡ InputTooLarge name limit → IsAmong named name × IsPassed contents left named name limit
 cause_of_large named names contents left i f ended same why name limit e = rw same (rw e at why)
 
 -- what refuses an input tells of no output

@@ -1,5 +1,5 @@
 -- For `run_tool`: what reading an input took, why inputs were not read, and why a run stopped.
-use Rattle.std.specs.Prelude.{◌≡◌, ◌⊎◌, ℕ, ◌<◌, ◌≤◌, List, [], length, codes, Option, IfSome}
+use Rattle.std.specs.Prelude.{◌≡◌, ◌⊎◌, ℕ, ◌+◌, ◌<◌, ◌≤◌, List, [], ◌∷◌, length, take, slice_get, codes, Option, Some, IfSome, option_map, if◌then◌else◌}
 use Rattle.std.specs.Bool.{MatchBool}
 use Rattle.std.specs.List.{IsAmong}
 use Rattle.ir_base.specs.Outside.{Lost}
@@ -37,9 +37,37 @@ IsUnread contents input_rose files_rose name = MatchBool (is_dash name) input_ro
 abbrev pub IsLarge : Option Named → Option (List ℕ) → List ℕ → Type 0
 IsLarge contents left name = MatchBool (is_dash name) (IfSome left (λ bytes. LARGEST < length bytes)) (IfSome contents (λ files. IsOver LARGEST files name))
 
--- the limit that an input of this name passed: that of one input, or that of all up to it
-abbrev pub IsPassed : Option Named → Option (List ℕ) → List ℕ → ℕ → Type 0
-IsPassed contents left name limit = ((limit ≡ LARGEST) × IsLarge contents left name) ⊎ (limit ≡ LARGEST_TOGETHER)
+-- an input of this name may hold this text, of at most 16 MiB: where it is told what it holds, it holds that
+abbrev pub MayHold : Option Named → Option (List ℕ) → List ℕ → List ℕ → Type 0
+MayHold contents left name text = MatchBool (is_dash name) (IfSome left (λ bytes. text ≡ bytes)) (ReadsFrom contents name text) × (length text ≤ LARGEST)
+
+-- what is left of standard input behind an input of this name, where that is told
+abbrev pub left_behind : Option (List ℕ) → List ℕ → Option (List ℕ)
+left_behind left name = if is_dash name then option_map (λ bytes. []) left else left
+
+-- inputs of these names may hold these texts, one behind the other
+abbrev pub MayHoldAll : Option Named → Option (List ℕ) → List (List ℕ) → List (List ℕ) → Type 0
+MayHoldAll contents left [] [] = Unit {0}
+MayHoldAll contents left [] (text ∷ texts) = ⊥
+MayHoldAll contents left (name ∷ names) [] = ⊥
+MayHoldAll contents left (name ∷ names) (text ∷ texts) = MayHold contents left name text × MayHoldAll contents (left_behind left name) names texts
+
+-- how many bytes texts are together
+abbrev pub bytes_of_all : List (List ℕ) → ℕ
+bytes_of_all [] = 0
+bytes_of_all (text ∷ texts) = length text + bytes_of_all texts
+
+-- the inputs up to one of that name may hold more than 32 MiB together
+pub record MayPassTogether (contents : Option Named) (left : Option (List ℕ)) (names : List (List ℕ)) (name : List ℕ) : Type 0 where
+  pub place : ℕ
+  pub is : slice_get names place ≡ Some name
+  pub texts : List (List ℕ)
+  pub held : MayHoldAll contents left (take (place + 1) names) texts
+  pub over : LARGEST_TOGETHER < bytes_of_all texts
+
+-- the limit that an input of this name passed: that of one input, or that of all of these up to it
+abbrev pub IsPassed : Option Named → Option (List ℕ) → List (List ℕ) → List ℕ → ℕ → Type 0
+IsPassed contents left names name limit = ((limit ≡ LARGEST) × IsLarge contents left name) ⊎ ((limit ≡ LARGEST_TOGETHER) × MayPassTogether contents left names name)
 
 -- this end refuses standard input
 abbrev pub RefusesStdin : Option (List ℕ) → Type 0 → Ended → Type 0
@@ -65,7 +93,7 @@ Refuses found name ended = ⊥
 -- this end refuses one of the inputs of these names
 abbrev pub RefusesOne : FoundInput → List (List ℕ) → Ended → Type 0
 RefusesOne found names (CannotRead name) = IsAmong names name × IsUnread found.contents found.input_rose found.files_rose name
-RefusesOne found names (InputTooLarge name limit) = IsAmong names name × IsPassed found.contents found.left name limit
+RefusesOne found names (InputTooLarge name limit) = IsAmong names name × IsPassed found.contents found.left names name limit
 RefusesOne found names Memory = Unit {0}
 RefusesOne found names ended = ⊥
 

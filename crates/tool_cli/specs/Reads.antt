@@ -71,9 +71,9 @@ pub record HasCauses {I O F : Type 0} (words : List (List ℕ)) (before now : Wo
   pub cannot_read : (name : List ℕ) → ended ≡ CannotRead name
       → (IsAmong (inputs_named words) name ⊎ ((listens words ≡ true) × (name ≡ codes "-")))
       × IsUnread before.contents (Rose before.input_faults now.input_faults) (Rose before.read_faults now.read_faults) name
-  -- what was too large is an input of the words, and passed that limit
+  -- what was too large is an input of the words, and passed that limit: by what is told of it, and of the inputs before it
   pub too_large : (name : List ℕ) (limit : ℕ) → ended ≡ InputTooLarge name limit
-      → IsAmong (inputs_named words) name × IsPassed before.contents before.left name limit
+      → IsAmong (inputs_named words) name × IsPassed before.contents before.left (inputs_named words) name limit
   -- what could not be written is the output, and a write of it failed
   pub cannot_write : (name : List ℕ) → ended ≡ CannotWrite name
       → IsUnwritten (output_named words) (Rose before.output_faults now.output_faults) (Rose before.write_faults now.write_faults) name

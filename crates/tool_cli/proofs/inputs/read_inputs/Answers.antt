@@ -4,6 +4,7 @@ use Rattle.ir_base.specs.Outside.{Rose}
 use Rattle.tool_cli.proofs.InputsInOrder.{Unread, files_by, onto_none, refused_one, over_one, told_refused, told_over, told_on, told_at_end, stdin_on, stdin_at_end, unread_on, unread_so_far, lost_by, lost_so_far}
 use Rattle.tool_cli.specs.declared.inputs.TheConstants.{LARGEST_TOGETHER}
 use Rattle.tool_cli.proofs.Judging.{short_more}
+use Rattle.tool_cli.proofs.Together.{left_on, passed_at, sum_on, texts_on}
 use Rattle.tool_cli.proofs.Front.{due_on, front_over, front_refused, none_due, turn_kept}
 use Rattle.tool_cli.proofs.Order.{untouched_on, order_kept, refuses_only, over_only, memory_keeps, files_on}
 use Rattle.tool_cli.proofs.inputs.read_inputs.Goals as goal
@@ -21,6 +22,9 @@ loop-name-init g c = record {
   untouched = inl refl;
   due = λ held told refusal first. (first, refl);
   no_file = λ none. refl;
+  held = rw c.new-texts.ensures tt;
+  behind = refl;
+  sum = rw c.new-texts.ensures refl;
   told = λ held stdin tells. (stdin, (λ e. e, rw c.new-texts.ensures (onto_none _)));
 }
 
@@ -116,7 +120,11 @@ returns-then-total-gt-LARGEST_TOGETHER-clause-refused g c =
     let reads = g.F.Files.read_faults in
     over_one c.args.names.now c.name-item.result (contents c.args.files.now) (left c.args.input.now)
     (Rose (faults c.args.input.now) (faults c.read_input.new.input)) (Rose (reads c.args.files.now) (reads c.read_input.new.files)) c.too_large.result
-    (c.loop-name.name-index, (c.loop-name-test.true, c.name-item.is)) (rw c.bytes-then-total-gt-LARGEST_TOGETHER.ensures at c.too_large.ensures)
+    (c.loop-name.name-index, (c.loop-name-test.true, c.name-item.is))
+    (passed_at c.args.names.now c.loop-name.name-index c.name-item.result c.in_ok-text.text (contents c.args.files.now) (contents c.loop-name.files) (left c.args.input.now) (left c.loop-name.input) (left c.read_input.new.input) c.loop-name.texts
+    c.loop-name-test.true c.name-item.is c.loop-name.invariant.same_contents c.loop-name.invariant.behind c.loop-name.invariant.held c.in_ok-text.ensures.read c.loop-name.total c.loop-name.invariant.sum
+    (rw c.bytes.ensures at c.if-total-gt-LARGEST_TOGETHER.true))
+    (rw c.bytes-then-total-gt-LARGEST_TOGETHER.ensures at c.too_large.ensures)
 
 pub returns-then-total-gt-LARGEST_TOGETHER-clause-leaves : goal.returns-then-total-gt-LARGEST_TOGETHER-clause-leaves
 returns-then-total-gt-LARGEST_TOGETHER-clause-leaves g c =
@@ -195,6 +203,11 @@ loop-name-preserved g c =
           (contents c.args.files.now) (contents c.loop-name.files) (left c.loop-name.input) (left c.read_input.new.input) c.loop-name.invariant.same_contents told
           c.in_ok-text.text c.in_ok-text.ensures.read c.read_input.new.input c.bytes.result.now c.bytes.ensures c.if-total-gt-LARGEST_TOGETHER.false c.read_input.ensures.untouched.unread;
       no_file = files_on c.args.names.now c.loop-name.name-index c.name-item.result c.args.files.now c.loop-name.files c.read_input.new.files c.loop-name-test.true c.name-item.is c.read_input.ensures.untouched.files_unread c.loop-name.invariant.no_file;
+      held = rw c.in_ok-push.ensures.ok (texts_on c.args.names.now c.loop-name.name-index c.name-item.result c.in_ok-text.text (contents c.args.files.now) (contents c.loop-name.files) (left c.args.input.now) (left c.loop-name.input) (left c.read_input.new.input) c.loop-name.texts
+          c.loop-name-test.true c.name-item.is c.loop-name.invariant.same_contents c.loop-name.invariant.behind c.loop-name.invariant.held c.in_ok-text.ensures.read);
+      behind = left_on c.args.names.now c.loop-name.name-index c.name-item.result c.in_ok-text.text (contents c.args.files.now) (contents c.loop-name.files) (left c.args.input.now) (left c.loop-name.input) (left c.read_input.new.input) c.loop-name.texts
+          c.loop-name-test.true c.name-item.is c.loop-name.invariant.behind c.in_ok-text.ensures.read (λ h. ap left (c.read_input.ensures.untouched.unread h));
+      sum = sum_on c.loop-name.texts c.push.new.self c.in_ok-text.text c.bytes.result.now c.loop-name.total c.in_ok-push.ensures.ok c.bytes.ensures c.loop-name.invariant.sum;
       told = λ held stdin tells.
           told_on c.args.names.now c.loop-name.name-index c.name-item.result (contents c.args.files.now) (contents c.loop-name.files) (left c.args.input.now) (left c.loop-name.input) (left c.read_input.new.input) held stdin c.loop-name.total c.loop-name.texts c.push.new.self c.in_ok-text.text c.bytes.result.now
           c.loop-name-test.true c.name-item.is c.loop-name.invariant.same_contents (c.loop-name.invariant.told held stdin tells) tells c.in_ok-text.ensures.read (λ h. ap left (c.read_input.ensures.untouched.unread h)) c.bytes.ensures c.if-total-gt-LARGEST_TOGETHER.false c.in_ok-push.ensures.ok;
