@@ -1,7 +1,7 @@
 -- Where an instruction neither calls nor returns, the functions under way stay the same.
 use Rattle.std.proofs.Common.{◌≡◌, ℕ, zero, suc, ◌*◌, Bool, true, false, All, List, [], ◌∷◌, map, Result, Ok, Err, refl, sym, ap, ◌∙◌, subst, Option, Some}
 use Rattle.std.specs.declared.alloc.AllocError.{AllocError}
-use Rattle.std.specs.Prelude.{⊤, IfOk, OnOk, if◌then◌else◌}
+use Rattle.std.specs.Prelude.{⊤, IfOk, OnErr, OnOk, if◌then◌else◌}
 use Rattle.std.proofs.lemmas.Bool.{false≢true}
 use Rattle.std.proofs.lemmas.List.Elements.{All-map}
 use Rattle.ir_eval.specs.declared.value.Scalar.{Scalar}
@@ -163,6 +163,13 @@ module _ (p : Pools) (a : Lists) (action : Action) (inner : is_inner action ≡ 
   accesses_stay m n (Err faults.MemoryLimit) next e h same = subst (λ (x : Result (Option code.Next) AllocError). OnOk x (FunctionsStay old new)) (sym e) (same_stays same)
   accesses_stay m n (Err faults.Memory) (Ok next) e h same = absurd (false≢true e)
   accesses_stay m n (Err faults.Memory) (Err refused) e h same = tt
+
+-- what leaves the frames as they were where it is refused leaves them so where the program ends
+pub refusal_keeps : {T : Type 0} (r : Result T MemoryFault) (old new : UnderWay) → OnErr r (new ≡ old) → FramesStay r old new
+refusal_keeps (Ok done) old new h = tt
+refusal_keeps (Err (faults.Undefined kind)) old new h = h
+refusal_keeps (Err faults.MemoryLimit) old new h = h
+refusal_keeps (Err faults.Memory) old new h = tt
 
 -- where nothing is done, they are the same
 pub none_stays : (s : UnderWay) → FunctionsStay s s

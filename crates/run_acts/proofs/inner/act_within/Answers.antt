@@ -7,7 +7,7 @@ use Rattle.run_flat.specs.Flat.{action_of}
 use Rattle.run_acts.specs.Acting.{ComesInside}
 use Rattle.run_acts.proofs.AskedCalls.{never_passed, outer_matched}
 use Rattle.run_acts.proofs.Coming.{accesses_want, acts_come, carried_comes, if_ok_all, on_err_all}
-use Rattle.run_acts.proofs.Staying.{accesses_come, accesses_stay, acts_stay, carried_stays, comes_inside, done_stays, is_inner, none_stays}
+use Rattle.run_acts.proofs.Staying.{accesses_come, accesses_stay, acts_stay, carried_stays, comes_inside, done_stays, is_inner, none_stays, refusal_keeps}
 use Rattle.run_acts.proofs.inner.act_within.Goals as goal
 
 -- ---- one leaf
@@ -137,7 +137,7 @@ returns-in-Load-clause-stays c =
     let may = c.requires.may in
     let m = c.args.memory.now in
     let new = c.act_on_load.new in
-    accesses_stay c.args.pools.now may.lists c.args.action.now (ap is_inner c.in-Load.is) c.args.stack.now new.stack may.running m m c.act_on_load.result c.next_of_access.result c.next_of_access.ensures (c.act_on_load.ensures.accesses may.lists) c.act_on_load.ensures.frames
+    accesses_stay c.args.pools.now may.lists c.args.action.now (ap is_inner c.in-Load.is) c.args.stack.now new.stack may.running m m c.act_on_load.result c.next_of_access.result c.next_of_access.ensures (c.act_on_load.ensures.accesses may.lists) (refusal_keeps c.act_on_load.result c.args.stack.now new.stack c.act_on_load.ensures.err)
 
 pub returns-in-Load-clause-wants : goal.returns-in-Load-clause-wants
 returns-in-Load-clause-wants c =
@@ -160,7 +160,7 @@ returns-in-Store-clause-stays c =
     let may = c.requires.may in
     let m = c.args.memory.now in
     let new = c.act_on_store.new in
-    accesses_stay c.args.pools.now may.lists c.args.action.now (ap is_inner c.in-Store.is) c.args.stack.now new.stack may.running m new.memory c.act_on_store.result c.next_of_access-in-Store.result c.next_of_access-in-Store.ensures (c.act_on_store.ensures.accesses may.lists) c.act_on_store.ensures.frames
+    accesses_stay c.args.pools.now may.lists c.args.action.now (ap is_inner c.in-Store.is) c.args.stack.now new.stack may.running m new.memory c.act_on_store.result c.next_of_access-in-Store.result c.next_of_access-in-Store.ensures (c.act_on_store.ensures.accesses may.lists) (refusal_keeps c.act_on_store.result c.args.stack.now new.stack c.act_on_store.ensures.err)
 
 pub returns-in-Store-clause-wants : goal.returns-in-Store-clause-wants
 returns-in-Store-clause-wants c =
