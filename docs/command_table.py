@@ -35,7 +35,7 @@ TOOLS = [
           " module give the same bytes, whatever their comments, spaces and spellings.",
           "The bitcode has this project's own records: other LLVM tools can read its blocks and"
           " abbreviations, not its instructions. To hand a module to them, send it as text."],
-         [("./ir-tools llvm-as examples/answer.ll -o out/answer.bc; echo $?", "0"),
+         [("./ir-tools llvm-as examples/answer.ll -o scratch/answer.bc; echo $?", "0"),
           ("echo '@x = global float 0.0' | ./ir-tools llvm-as; echo $?",
            "llvm-as: -:1:13: left out: float\n1")]),
     Tool("llvm-dis", "write the text of a bitcode file", "[-o FILE] [INPUT]",
@@ -45,7 +45,7 @@ TOOLS = [
           " canonical text. What `llvm-as` wrote comes back as the same module; a text has at most"
           " 16 MiB if a tool is to read it again.",
           "Bitcode that clang or another LLVM tool wrote is rejected with `foreign producer`."],
-         [("./ir-tools llvm-dis out/answer.bc -o -",
+         [("./ir-tools llvm-dis scratch/answer.bc -o -",
            "define i32 @main() {\n0:\n  %1 = add i32 40, 2\n  ret i32 %1\n}"),
           ("./ir-tools llvm-dis examples/answer.ll; echo $?",
            "llvm-dis: examples/answer.ll: bit 0: bad magic\n1")]),
@@ -56,13 +56,13 @@ TOOLS = [
           " prints what the inputs print where they run side by side, and ends as they do. If two"
           " inputs have entries of one name that do not go together, `llvm-link` names the first"
           " such conflict and writes nothing."],
-         [("echo 'define i32 @g() { ret i32 7 }' > out/g.ll", ""),
+         [("echo 'define i32 @g() { ret i32 7 }' > scratch/g.ll", ""),
           ("echo 'declare i32 @g() define i32 @main() { %1 = call i32 @g() ret i32 %1 }'"
-           " > out/main.ll", ""),
-          ("./ir-tools llvm-link out/main.ll out/g.ll -o out/both.bc", ""),
-          ("./ir-tools lli out/both.bc; echo $?", "7"),
-          ("./ir-tools llvm-link out/g.ll out/g.ll; echo $?",
-           "llvm-link: conflict: two strong: @g in out/g.ll and out/g.ll\n1")]),
+           " > scratch/main.ll", ""),
+          ("./ir-tools llvm-link scratch/main.ll scratch/g.ll -o scratch/both.bc", ""),
+          ("./ir-tools lli scratch/both.bc; echo $?", "7"),
+          ("./ir-tools llvm-link scratch/g.ll scratch/g.ll; echo $?",
+           "llvm-link: conflict: two strong: @g in scratch/g.ll and scratch/g.ll\n1")]),
     Tool("llvm-extract", "cut definitions out of a module",
          "[-S] [-o FILE] [--func NAME] [--glob NAME] [--alias NAME] [--recursive] [--delete]"
          " [INPUT]",
@@ -73,11 +73,11 @@ TOOLS = [
           " definition, and with `--delete` all of them.",
           "Every name has to be that of a definition of its kind; if one is not, `llvm-extract`"
           " names the first, functions before variables before aliases, and writes nothing."],
-         [("./ir-tools llvm-extract -S --func=g out/both.bc",
+         [("./ir-tools llvm-extract -S --func=g scratch/both.bc",
            "define i32 @g() {\n0:\n  ret i32 7\n}"),
-          ("./ir-tools llvm-extract -S --func=g --delete out/both.bc",
+          ("./ir-tools llvm-extract -S --func=g --delete scratch/both.bc",
            "declare i32 @g()\ndefine i32 @main() {\n0:\n  %1 = call i32 @g()\n  ret i32 %1\n}"),
-          ("./ir-tools llvm-extract --glob=g out/both.bc; echo $?",
+          ("./ir-tools llvm-extract --glob=g scratch/both.bc; echo $?",
            "llvm-extract: no symbol @g\n1")]),
     Tool("lli", "run a program", "[--max-steps N] [INPUT [ARGUMENT...]]",
          "text or bitcode", "standard output, where the program prints",
@@ -103,9 +103,9 @@ TOOLS = [
           "With `--dump`, a block is indented by two spaces for each block around it. The operands"
           " of a record follow its code; a byte of Char6 is printed as its number, and a blob as"
           " `blob` and its number of bytes."],
-         [("./ir-tools llvm-bcanalyzer out/answer.bc | tail -1",
+         [("./ir-tools llvm-bcanalyzer scratch/answer.bc | tail -1",
            "total: 5 blocks, 9 records, 2 abbreviations"),
-          ("./ir-tools llvm-bcanalyzer --dump out/answer.bc | sed -n 9,14p",
+          ("./ir-tools llvm-bcanalyzer --dump scratch/answer.bc | sed -n 9,14p",
            "block 8 width 3 words 14\n  record 1 by 3: 2\n  block 17 width 3 words 1\n"
            "    record 1 by 3: 32\n  end 17\n  record 6 by 3: 0 4 0 1 0 0 0")]),
 ]
@@ -156,3 +156,13 @@ WORDS = [
     "`lli` reads no option after its input: in `lli a.ll one -o two` the words after `a.ll` are the"
     " program's.",
 ]
+
+# What ir-tools(1) says before the tools, and of the environment.
+ABOUT = [
+    "One program with the tools below. TOOL names one, and each WORD is that tool's. Each is"
+    " installed under its own name too: `lli a.ll` is `ir-tools lli a.ll`.",
+    "They read and write modules of LLVM IR over integers of up to 128 bits, pointers, arrays and"
+    " structs, as text or as bitcode of their own. The documents, among them one of all errors, and"
+    " the examples are in share/doc/ir-tools.",
+]
+TUNABLES = "Settings of the C library's allocator. Where it is not set, the launchers set it."

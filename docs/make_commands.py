@@ -14,7 +14,7 @@ import sys
 import textwrap
 
 sys.dont_write_bytecode = True
-from command_table import DATE, OPTIONS, STATUSES, STREAMS, TOOLS, WORDS
+from command_table import ABOUT, DATE, OPTIONS, STATUSES, STREAMS, TOOLS, TUNABLES, WORDS
 
 ROOT = pathlib.Path(__file__).resolve().parent.parent
 MARK = re.compile(r"(<!-- made: ([\w-]+) -->\n).*?(<!-- end -->\n)", re.S)
@@ -75,7 +75,7 @@ def sample(examples):
     lines = []
     for command, printed in examples:
         lines += ["$ " + command] + printed.splitlines()
-    text = "\n".join(lines).replace("./ir-tools ", "").replace("examples/", "").replace("out/", "")
+    text = "\n".join(lines).replace("./ir-tools ", "").replace("examples/", "").replace("scratch/", "")
     text = re.sub(r"^(?=[.'])", "\\\\&", escaped(text), flags=re.M)
     return f".RS 4\n.nf\n{text}\n.fi\n.RE"
 
@@ -126,13 +126,11 @@ def program_page():
                       for tool in TOOLS)
     return page("ir-tools", "tools for LLVM IR over integers", [
         ("SYNOPSIS", "\\fBir\\-tools\\fR \\fITOOL\\fR [\\fIWORD\\fR...]"),
-        ("DESCRIPTION", roff("One program with the tools below. TOOL names one, and each WORD is"
-                             " that tool's. They read and write modules of LLVM IR over integers,"
-                             " pointers, arrays and structs, as text or as bitcode of their own.")
-         + "\n" + tools),
+        ("DESCRIPTION", paragraphs(ABOUT) + "\n" + tools),
         ("WORDS", paragraphs(WORDS)),
         ("STREAMS", "\n".join(entry(escaped(name), text) for name, text in STREAMS)),
         ("EXIT STATUS", statuses("")),
+        ("ENVIRONMENT", entry("\\fBGLIBC_TUNABLES\\fR", TUNABLES)),
         ("SEE ALSO", see_also("ir-tools")),
     ])
 
