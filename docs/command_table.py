@@ -1,6 +1,6 @@
 """What docs/commands.md and the manual pages both have: the tools, their options, streams and exit
-statuses. Between backquotes stands what is typed or printed; a word in capitals in a synopsis is
-the reader's to choose. docs/make_commands.py writes the pages.
+statuses. What is typed or printed is between backquotes; a word in capitals in a synopsis is the
+reader's to choose. docs/make_commands.py writes the pages.
 """
 from collections import namedtuple
 
@@ -33,8 +33,8 @@ TOOLS = [
          ["-o"],
          ["Reads one module of LLVM IR as text, checks it and writes its bitcode. Two texts of one"
           " module give the same bytes, whatever their comments, spaces and spellings.",
-          "The bitcode has this project's own records: other LLVM tools can read its blocks and"
-          " abbreviations, not its instructions. To hand a module to them, send it as text."],
+          "The bitcode has this project's own records: LLVM's tools can read its blocks and"
+          " abbreviations, not its instructions. Exchange modules with them as text."],
          [("./ir-tools llvm-as examples/answer.ll -o scratch/answer.bc; echo $?", "0"),
           ("echo '@x = global float 0.0' | ./ir-tools llvm-as; echo $?",
            "llvm-as: -:1:13: left out: float\n1")]),
@@ -42,9 +42,9 @@ TOOLS = [
          "bitcode", "INPUT with `.bc` at its end replaced by `.ll`, or with `.ll` added",
          ["-o"],
          ["Reads one module as bitcode, whatever its first bytes are, checks it and writes its"
-          " canonical text. What `llvm-as` wrote comes back as the same module; a text has at most"
-          " 16 MiB if a tool is to read it again.",
-          "Bitcode that clang or another LLVM tool wrote is rejected with `foreign producer`."],
+          " canonical text. The text is that of the same module: a tool that reads it, which needs"
+          " it to have at most 16 MiB, gets the same bitcode again.",
+          "Bitcode that clang or one of LLVM's tools wrote is rejected with `foreign producer`."],
          [("./ir-tools llvm-dis scratch/answer.bc -o -",
            "define i32 @main() {\n0:\n  %1 = add i32 40, 2\n  ret i32 %1\n}"),
           ("./ir-tools llvm-dis examples/answer.ll; echo $?",
@@ -52,10 +52,10 @@ TOOLS = [
     Tool("llvm-link", "link modules into one", "[-S] [-o FILE] INPUT...",
          "text or bitcode", "standard output",
          ["-o", "-S"],
-         ["Reads modules, checks each, and writes the one module that they link to. That module"
-          " prints what the inputs print where they run side by side, and ends as they do. If two"
-          " inputs have entries of one name that do not go together, `llvm-link` names the first"
-          " such conflict and writes nothing."],
+         ["Reads modules, checks each, and writes the one module that they link to. Run, that"
+          " module prints the same bytes as the inputs run side by side without linking, and ends in"
+          " the same way. If two inputs define or declare a name in ways that conflict, `llvm-link`"
+          " reports the first conflict and writes nothing."],
          [("echo 'define i32 @g() { ret i32 7 }' > scratch/g.ll", ""),
           ("echo 'declare i32 @g() define i32 @main() { %1 = call i32 @g() ret i32 %1 }'"
            " > scratch/main.ll", ""),
@@ -71,8 +71,9 @@ TOOLS = [
          ["Reads one module, checks it, and writes the part that the options select: the selected"
           " definitions, and declarations of what they use. Without a selection it keeps no"
           " definition, and with `--delete` all of them.",
-          "Every name has to be that of a definition of its kind; if one is not, `llvm-extract`"
-          " names the first, functions before variables before aliases, and writes nothing."],
+          "The module has to define each NAME, as a function, a variable or an alias. If it does"
+          " not, `llvm-extract` reports the first such NAME, functions before variables before"
+          " aliases, and writes nothing."],
          [("./ir-tools llvm-extract -S --func=g scratch/both.bc",
            "define i32 @g() {\n0:\n  ret i32 7\n}"),
           ("./ir-tools llvm-extract -S --func=g --delete scratch/both.bc",
@@ -82,12 +83,13 @@ TOOLS = [
     Tool("lli", "run a program", "[--max-steps N] [INPUT [ARGUMENT...]]",
          "text or bitcode", "standard output, where the program prints",
          ["--max-steps"],
-         ["Reads one module, checks it, and runs its `main` with the arguments INPUT, ARGUMENT and"
-          " so on, as they are. The value of `main` modulo 256 is the exit status.",
-          "The program reads standard input. Where the module itself came from there, the program"
-          " has no input: `getchar` returns -1.",
-          "A program that does something undefined ends there, with the kind of undefined behaviour"
-          " on standard error."],
+         ["Reads one module, checks it, and runs its `main`. The arguments of the program are"
+          " INPUT and each ARGUMENT, as they were given. The value of `main` modulo 256 is the exit"
+          " status.",
+          "The program reads standard input. If the module itself came from there, the program has"
+          " no input: `getchar` returns -1.",
+          "A program that does something undefined is stopped, and the kind of undefined behaviour"
+          " is printed on standard error."],
          [("./ir-tools lli examples/hello.ll",
            "1 squared is 1\n2 squared is 4\n3 squared is 9"),
           ("./ir-tools lli --max-steps=1 examples/answer.ll; echo $?",
@@ -111,11 +113,11 @@ TOOLS = [
 ]
 
 STREAMS = [
-    ("standard input", "Read to its end if it is an input. Read as the program asks for bytes if"
-     " `lli` runs a module that came from a file. Not touched otherwise."),
+    ("standard input", "Read to its end if it is an input. If `lli` runs a module that came from a"
+     " file, read when the program asks for bytes. Not touched otherwise."),
     ("standard output", "A result, written after all inputs were accepted; the output of"
-     " `llvm-bcanalyzer`; and what a program prints, while it runs. If a write fails, a prefix of"
-     " the output was written."),
+     " `llvm-bcanalyzer`; and what a program prints, while it runs. If a write fails (a closed pipe"
+     " is such a failure), a prefix of the output was written."),
     ("the file of a result", "Opened and written in one call, after all inputs were accepted. If"
      " the write fails, it has a prefix of the result or its former contents. No other file is"
      " written."),

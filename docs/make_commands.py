@@ -38,7 +38,7 @@ def guarded(text):
 
 
 def roff(text):
-    """A paragraph, what stands between backquotes in bold."""
+    """A paragraph, with what is between backquotes in bold."""
     parts = text.replace("\\", "\\e").split("`")
     for odd in range(1, len(parts), 2):
         parts[odd] = "\\fB" + parts[odd].replace("-", "\\-") + "\\fR"

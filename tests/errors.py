@@ -24,7 +24,7 @@ def sources():
 
 
 def lines_written(code):
-    """Lines written in pieces, behind the tool's name, with `*` for what a run fills in."""
+    """Lines written in pieces, after the tool's name, with `*` for what a run fills in."""
     for call in re.findall(r"write_pieces\(\s*errors,\s*&\[(.*?)\]", code, re.S):
         pieces = re.findall(STRING + r"|([a-z_]+(?:\([a-z_]*\))?)", call)
         line = "".join("*" if name else text for text, name in pieces)
