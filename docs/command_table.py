@@ -53,9 +53,9 @@ TOOLS = [
          "text or bitcode", "standard output",
          ["-o", "-S"],
          ["Reads modules, checks each, and writes the one module that they link to. Run, that"
-          " module prints the same bytes as the inputs run side by side without linking, and ends in"
-          " the same way. If two inputs define or declare a name in ways that conflict, `llvm-link`"
-          " reports the first conflict and writes nothing."],
+          " module prints the same bytes as the inputs run side by side without linking, and ends"
+          " in the same way. If two inputs define or declare a name in ways that conflict,"
+          " `llvm-link` reports the first conflict and writes nothing."],
          [("echo 'define i32 @g() { ret i32 7 }' > scratch/g.ll", ""),
           ("echo 'declare i32 @g() define i32 @main() { %1 = call i32 @g() ret i32 %1 }'"
            " > scratch/main.ll", ""),

@@ -2,8 +2,9 @@
 """Writes man/*.1 and the marked parts of docs/commands.md, both from docs/command_table.py.
 
     docs/make_commands.py            writes them
-    docs/make_commands.py --check    says whether they are what it would write, and has `mandoc`
-                                     and `man` read the pages where these are installed
+    docs/make_commands.py --check    says whether they are what it would write, whether the table
+                                     has the tools, options and statuses of the sources, and what
+                                     `mandoc` and `man` find wrong, where these are installed
 """
 import os
 import pathlib
@@ -18,6 +19,14 @@ from command_table import ABOUT, DATE, OPTIONS, STATUSES, STREAMS, TOOLS, TUNABL
 
 ROOT = pathlib.Path(__file__).resolve().parent.parent
 MARK = re.compile(r"(<!-- made: ([\w-]+) -->\n).*?(<!-- end -->\n)", re.S)
+
+
+def shown(examples):
+    """Commands, and what each prints, as a terminal shows them."""
+    lines = []
+    for command, printed in examples:
+        lines += ["$ " + command] + printed.splitlines()
+    return "\n".join(lines)
 
 
 # ---- manual pages
@@ -72,12 +81,8 @@ def statuses(tool):
 
 def sample(examples):
     """Commands and what they print, without what names the checkout."""
-    lines = []
-    for command, printed in examples:
-        lines += ["$ " + command] + printed.splitlines()
-    text = "\n".join(lines).replace("./ir-tools ", "").replace("examples/", "").replace("scratch/", "")
-    text = re.sub(r"^(?=[.'])", "\\\\&", escaped(text), flags=re.M)
-    return f".RS 4\n.nf\n{text}\n.fi\n.RE"
+    text = re.sub(r"\./ir-tools |examples/|scratch/", "", shown(examples))
+    return f".RS 4\n.nf\n{guarded(escaped(text))}\n.fi\n.RE"
 
 
 def page(name, does, sections):
@@ -143,13 +148,6 @@ def table(heads, rows):
     return "".join("| " + " | ".join(line) + " |\n" for line in lines)
 
 
-def block(examples):
-    lines = []
-    for command, printed in examples:
-        lines += ["$ " + command] + printed.splitlines()
-    return "```\n" + "\n".join(lines) + "\n```\n"
-
-
 def parts():
     """The parts of docs/commands.md by the names of their marks."""
     made = {
@@ -167,7 +165,7 @@ def parts():
     }
     for tool in TOOLS:
         texts = "\n".join(wrap(text, width=100) + "\n" for text in tool.text)
-        made[tool.name] = texts + "\n" + block(tool.examples)
+        made[tool.name] = f"{texts}\n```\n{shown(tool.examples)}\n```\n"
     return made
 
 
@@ -189,24 +187,50 @@ def pages():
     return {**made, "man/ir-tools.1": program_page(), "docs/commands.md": commands_page()}
 
 
+def differences():
+    """Tools, options and statuses that the sources have and the table lacks, or the reverse."""
+    code = "".join(path.read_text() for path in ROOT.glob("crates/*/src/**/*.rt"))
+    statuses_of = "".join(re.findall(r"fn status_of\(.*?^}", code, re.M | re.S))
+    found = {
+        "tools": re.findall(r'b"([\w-]+)" => Some\(Tool::', code),
+        "options": re.findall(r'b"([\w-]+)" => Some\((?:PlainOption|Setting)::', code),
+        "statuses": re.findall(r"=> (\d+),", statuses_of),
+    }
+    stated = {
+        "tools": [tool.name for tool in TOOLS],
+        "options": [option.lstrip("-") for option in OPTIONS],
+        "statuses": [status for status, _, _ in STATUSES if status.isdigit()],
+    }
+    for kind, its in found.items():
+        if set(its) != set(stated[kind]):
+            yield f"docs/command_table.py: its {kind} are not those of the sources: {sorted(its)}"
+
+
+def readers(path):
+    """The installed programs that read a manual page and say what is wrong with it."""
+    if shutil.which("mandoc"):
+        yield ["mandoc", "-Tlint", path]
+    # Other programs of this name have other options.
+    version = ["man", "--version"]
+    if shutil.which("man") and subprocess.run(version, capture_output=True).stdout[:4] == b"man ":
+        yield ["man", "--warnings", "-Tutf8", "-Z", "-l", path]
+
+
 def complaints(path):
-    """What `mandoc` and `man` have to say about a manual page, where they are installed."""
-    commands = [["mandoc", "-Tlint", path], ["man", "--warnings", "-Tutf8", "-Z", "-l", path]]
     environment = {**os.environ, "LC_ALL": "C.UTF-8", "MANROFFSEQ": "", "MANWIDTH": "80"}
-    for command in commands:
-        if shutil.which(command[0]):
-            run = subprocess.run(command, capture_output=True, text=True, env=environment)
-            yield from (run.stderr + (run.stdout if command[0] == "mandoc" else "")).splitlines()
+    for command in readers(path):
+        run = subprocess.run(command, capture_output=True, text=True, env=environment)
+        yield from (run.stderr + (run.stdout if command[0] == "mandoc" else "")).splitlines()
 
 
 def check():
     wrong = [f"{path}: not what docs/make_commands.py writes" for path, text in pages().items()
              if not (ROOT / path).exists() or (ROOT / path).read_text() != text]
+    wrong += differences()
     for path in sorted((ROOT / "man").glob("*.1")):
         wrong += complaints(str(path))
-    skipped = [name for name in ("mandoc", "man") if not shutil.which(name)]
-    if skipped:
-        print(f"manual pages: not read by {' and '.join(skipped)}, not installed")
+    if not list(readers("")):
+        print("manual pages: read by neither mandoc nor man, which are not installed")
     sys.exit("\n".join(wrong) if wrong else 0)
 
 
