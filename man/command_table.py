@@ -1,6 +1,6 @@
 """What docs/commands.md and the manual pages both have: the tools, their options, streams and exit
 statuses. What is typed or printed is between backquotes; a word in capitals in a synopsis is the
-reader's to choose. docs/make_commands.py writes the pages.
+reader's to choose. man/make_commands.py writes the pages.
 """
 from collections import namedtuple
 

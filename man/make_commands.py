@@ -1,8 +1,8 @@
 #!/usr/bin/env python3
-"""Writes man/*.1 and the marked parts of docs/commands.md, both from docs/command_table.py.
+"""Writes man/*.1 and the marked parts of docs/commands.md, both from man/command_table.py.
 
-    docs/make_commands.py            writes them
-    docs/make_commands.py --check    says whether they are what it would write, whether the table
+    man/make_commands.py            writes them
+    man/make_commands.py --check    says whether they are what it would write, whether the table
                                      has the tools, options and statuses of the sources, and what
                                      `mandoc` and `man` find wrong, where these are installed
 """
@@ -87,7 +87,7 @@ def sample(examples):
 
 def page(name, does, sections):
     version = (ROOT / "VERSION").read_text().strip()
-    head = ('.\\" Written by docs/make_commands.py.\n'
+    head = ('.\\" Written by man/make_commands.py.\n'
             f'.TH {name.upper()} 1 {DATE} "ir-tools {version}"\n'
             f".SH NAME\n{name} \\- {does}\n")
     return head + "".join(f".SH {title}\n{text}\n" for title, text in sections)
@@ -203,7 +203,7 @@ def differences():
     }
     for kind, its in found.items():
         if set(its) != set(stated[kind]):
-            yield f"docs/command_table.py: its {kind} are not those of the sources: {sorted(its)}"
+            yield f"man/command_table.py: its {kind} are not those of the sources: {sorted(its)}"
 
 
 def readers(path):
@@ -224,7 +224,7 @@ def complaints(path):
 
 
 def check():
-    wrong = [f"{path}: not what docs/make_commands.py writes" for path, text in pages().items()
+    wrong = [f"{path}: not what man/make_commands.py writes" for path, text in pages().items()
              if not (ROOT / path).exists() or (ROOT / path).read_text() != text]
     wrong += differences()
     for path in sorted((ROOT / "man").glob("*.1")):
