@@ -33,8 +33,8 @@ def lines_written(code):
 
 
 def texts_handed_on(code):
-    """Texts that a call hands to what writes such a line."""
-    for call in re.findall(r"\btell_\w+\(\s*errors,[^;{}]*?\)(?=[\s,;}])", code, re.S):
+    """Texts that a call hands, with standard error, to what writes such a line."""
+    for call in re.findall(r"\b\w+\(\s*errors,[^;{}\[]*?\)(?=[\s,;}])", code, re.S):
         yield from (text.strip(": ") for text in re.findall(STRING, call))
 
 
