@@ -39,10 +39,10 @@ class Command:
 
     def is_complete(self):
         """Whether no further line belongs to it."""
-        if self.text.endswith("\\"):
-            return False
         ends = re.findall(r"<<-?\s*'?(\w+)'?", self.text)
-        return not ends or self.text.split("\n")[-1].strip() == ends[-1]
+        if ends:
+            return self.text.split("\n")[-1].strip() == ends[-1]
+        return tokens(self.text) is not None
 
     def has_comment(self):
         return re.search(r"\s# ", self.text) is not None and not self.shown
@@ -86,12 +86,22 @@ def commands(block):
     return found
 
 
+def tokens(text):
+    """The words and operators of a shell's line, or nothing where a quote or a backslash leaves it open."""
+    lexer = shlex.shlex(text.replace("\\\n", " "), posix=True, punctuation_chars=True)
+    lexer.whitespace_split = True
+    try:
+        return list(lexer)
+    except ValueError:
+        return None
+
+
 def programs(text):
     """The programs that a command calls."""
-    lexer = shlex.shlex(text.split("\n")[0], posix=True, punctuation_chars=True)
-    lexer.whitespace_split = True
+    if "<<" in text:
+        text = text.split("\n")[0]
     is_first = True
-    for word in lexer:
+    for word in tokens(text) or []:
         if is_first and word not in SEPARATORS and not re.match(r"\w+=", word):
             yield word
             is_first = False
