@@ -3,8 +3,9 @@
 
     tests/launching.py TOOL    installs and launches this ir-tools program
 
-The launcher is tested in a small checkout made for it: one source, a release of that source, and a command in place of
-the toolchain's `rt`. What must not be written is left to a user without rights where root runs the tests.
+The launcher is tested in a small checkout made for it: one source, a release of that source, and a
+command in place of the toolchain's `rt`. What must not be written is left to a user without rights
+where root runs the tests.
 """
 import gzip
 import os
@@ -26,7 +27,7 @@ def call(words, more=None, **options):
     """Runs words with some variables set."""
     environment = dict(os.environ, **(more or {}))
     return subprocess.run(list(map(str, words)), env=environment, capture_output=True, text=True,
-                          stdin=subprocess.DEVNULL, timeout=60, **options)
+                          stdin=subprocess.DEVNULL, timeout=600, **options)
 
 
 def script(path, text):
@@ -68,7 +69,8 @@ class Install(Scratch):
         self.assertTrue(made.stdout.startswith(f"ir-tools {version}\n"), made.stdout)
         for folder in ("libexec/ir-tools/ir-tools", "bin/", "share/doc/ir-tools/"):
             self.assertIn(f"{prefix}/{folder}", made.stdout)
-        self.assertEqual(sorted(it.name for it in (prefix / "bin").iterdir()), sorted(["ir-tools", *TOOLS]))
+        names = sorted(it.name for it in (prefix / "bin").iterdir())
+        self.assertEqual(names, sorted(["ir-tools", *TOOLS]))
         for tool in ["ir-tools", *TOOLS]:
             self.assertEqual(len((prefix / "bin" / tool).read_text().splitlines()), 3)
         pages = sorted(it.name for it in (ROOT / "man").glob("*.1"))
@@ -130,16 +132,17 @@ class Install(Scratch):
         (self.room / "bin" / "lli").write_text("another lli")
         made = self.install(self.room)
         self.assertEqual(made.returncode, 1)
-        self.assertIn(f"{self.room}/bin/lli is there, and no part of an installation", made.stderr)
+        self.assertIn(f"{self.room}/bin/lli was not installed by this", made.stderr)
         self.assertEqual(self.files(self.room), ["answer.ll", "bin", "bin/lli"])
         self.assertEqual((self.room / "bin" / "lli").read_text(), "another lli")
 
     def test_what_a_machine_lacks(self):
-        for name, text in [("uname", '[ "$1" = -s ] && echo Linux || echo aarch64'), ("getconf", "echo glibc 2.31")]:
-            script(self.room / name, text)
-        made = self.install(self.room / "prefix", more={"PATH": f"{self.room}:{os.environ['PATH']}"})
+        script(self.room / "uname", '[ "$1" = -s ] && echo Linux || echo aarch64')
+        script(self.room / "getconf", "echo glibc 2.31")
+        path = f"{self.room}:{os.environ['PATH']}"
+        made = self.install(self.room / "prefix", more={"PATH": path})
         lines = [
-            "release/install: the processor is aarch64, and the program needs x86_64 (x86-64)",
+            "release/install: the processor is aarch64, and the program needs x86_64",
             "release/install: glibc is 2.31, and the program needs glibc 2.34 or newer",
         ]
         self.assertEqual((made.returncode, made.stderr.splitlines()), (1, lines))
@@ -147,7 +150,8 @@ class Install(Scratch):
 
     def test_a_program_that_does_not_work(self):
         script(self.room / "wrong", "exit 41")
-        made = call([ROOT / "release" / "install", f"--program={self.room / 'wrong'}", self.room / "prefix"])
+        program = f"--program={self.room}/wrong"
+        made = call([ROOT / "release" / "install", program, self.room / "prefix"])
         self.assertEqual(made.returncode, 1)
         self.assertIn("FAILED", made.stderr)
         self.assertIn("ended with status 41 and not with 42", made.stderr)
@@ -165,13 +169,13 @@ class Launcher(Scratch):
         (self.top / "crates.txt").write_text("ir_tools\n")
         shutil.copytree(ROOT / "release", self.top / "release")
         shutil.copy(ROOT / "ir-tools", self.top)
-        with gzip.open(self.top / "release" / "ir-tools.gz", "wb") as packed:
+        with gzip.open(self.top / "release" / "ir-tools.gz", "wb", 1) as packed:
             packed.write(pathlib.Path(TOOL).read_bytes())
         self.sources = call([self.top / "release" / "sum"]).stdout
         (self.top / "release" / "MANIFEST").write_text(f"sources {self.sources}")
         shutil.copy(TOOL, self.room / "built")
-        script(self.room / "rt",
-               f"mkdir -p out && cp {self.room}/built out/ir_tools && echo rt: running out/ir_tools\n")
+        build = f"mkdir -p out && cp {self.room}/built out/ir_tools"
+        script(self.room / "rt", f"{build} && echo rt: running out/ir_tools\n")
         self.variables = {"RT": str(self.room / "rt"), "XDG_CACHE_HOME": str(self.room / "cache")}
 
     def launch(self, *words, name="ir-tools", **options):
@@ -253,13 +257,14 @@ class Launcher(Scratch):
         self.make_read_only()
         self.variables["XDG_CACHE_HOME"] = str(self.top / "cache")
         made = self.launch("lli", self.answer, **NOBODY)
-        self.assertEqual((made.returncode, made.stdout, made.stderr.count("\n")), (2, "", 1), made.stderr)
-        self.assertIn(f"ir-tools: cannot write {self.top}/.built or {self.top}/cache/ir-tools", made.stderr)
+        self.assertEqual((made.returncode, made.stderr.count("\n")), (2, 1), made.stderr)
+        line = f"ir-tools: cannot write {self.top}/.built or {self.top}/cache/ir-tools"
+        self.assertIn(line, made.stderr)
 
     def test_several_at_once(self):
         words = [str(self.top / "ir-tools"), "lli", self.answer]
         runs = [subprocess.Popen(words, env=dict(os.environ, **self.variables)) for _ in range(12)]
-        self.assertEqual({run.wait(60) for run in runs}, {42})
+        self.assertEqual({run.wait(600) for run in runs}, {42})
         self.assertEqual(len(self.programs(self.top / ".built")), 1)
 
 

@@ -1,18 +1,22 @@
 #!/usr/bin/env python3
 """Runs the commands of pages, and compares what they print with what the page shows.
 
-    tests/pages.py [--tool TOOL] PAGE ..    README.md, docs/lesson.md ..; the last line has the counts
+    tests/pages.py [--tool TOOL] PAGE ..    README.md, docs/lesson.md ..
 
-A command is a line of a code block (indented by four spaces, or between ```) that begins with `$ `. It goes on in the
-next line after a backslash, and to the end of a here-document. What it shows are the lines up to the next command or the
-end of the block; a line `...` or `…` of them means any lines. Where a comment (`# ..`) is on the command's line and no
-output is shown, it only has to end with status 0. Standard output and standard error are compared together, as a
-terminal shows them.
+The last line has the counts.
 
-The commands of a page run in the order of the page, in one scratch folder that has what the checkout has: `./ir-tools`
-is TOOL there (./ir-tools of the checkout where none is given), and the tools can be called by their names too. What they
-write has to be in `scratch/`. A command of a program that is not installed is skipped with the rest of its block, and so
-is one that has `…`, and one of NOT_RUN.
+
+A command is a line of a code block (indented by four spaces, or between ```) that begins with `$ `.
+It goes on in the next line after a backslash, and to the end of a here-document. What it shows are
+the lines up to the next command or the end of the block; a line `...` or `…` of them means any
+lines. Where a comment (`# ..`) is on the command's line and no output is shown, it only has to end
+with status 0. Standard output and standard error are compared together, as a terminal shows them.
+
+The commands of a page run in the order of the page, in one scratch folder that has what the
+checkout has: `./ir-tools` is TOOL there (./ir-tools of the checkout where none is given), and the
+tools can be called by their names too. What they write has to be in `scratch/`. A command of a
+program that is not installed is skipped with the rest of its block, and so is one that has `…`, and
+one of NOT_RUN.
 """
 import argparse
 import os
@@ -32,7 +36,7 @@ SEPARATORS = {"|", "||", "&&", ";", ";;", "&", "(", ")", "|&"}
 
 
 class Command:
-    """A command of a page: the number of its line, its text, and the lines that are shown after it."""
+    """A command of a page: its line's number, its text, and the lines that are shown after it."""
 
     def __init__(self, number, text):
         self.number, self.text, self.shown = number, text, []
@@ -49,8 +53,9 @@ class Command:
 
     def pattern(self):
         """What its output has to match."""
-        lines = [r"(?:.*\n)*" if line in ("...", "…") else re.escape(line) + "\n" for line in self.shown]
-        return "".join(lines)
+        def matched(line):
+            return r"(?:.*\n)*" if line in ("...", "…") else re.escape(line) + "\n"
+        return "".join(map(matched, self.shown))
 
 
 def blocks(text):
@@ -66,7 +71,8 @@ def blocks(text):
             block.append((number, ""))
         else:
             yield block
-            block, fence = [], len(line) - len(line.lstrip()) if is_fence and fence is None else None
+            is_opening = is_fence and fence is None
+            block, fence = [], len(line) - len(line.lstrip()) if is_opening else None
     yield block
 
 
@@ -87,7 +93,7 @@ def commands(block):
 
 
 def tokens(text):
-    """The words and operators of a shell's line, or nothing where a quote or a backslash leaves it open."""
+    """The words and operators of a shell's line, or nothing where a quote leaves it open."""
     lexer = shlex.shlex(text.replace("\\\n", " "), posix=True, punctuation_chars=True)
     lexer.whitespace_split = True
     try:
@@ -140,8 +146,9 @@ class Room:
         return {str(path.relative_to(self.top)) for path in paths}
 
     def run(self, text):
-        made = subprocess.run(["sh", "-c", text], cwd=self.top, env=self.environment, stdin=subprocess.DEVNULL,
-                              stdout=subprocess.PIPE, stderr=subprocess.STDOUT, timeout=60)
+        made = subprocess.run(["sh", "-c", text], cwd=self.top, env=self.environment, timeout=600,
+                              stdin=subprocess.DEVNULL, stdout=subprocess.PIPE,
+                              stderr=subprocess.STDOUT)
         return made.returncode, made.stdout.decode(errors="backslashreplace")
 
     def lacks(self, text):
@@ -170,8 +177,9 @@ class Checked:
             wrong = f"status {status}, {output!r}" if status else None
         else:
             output += "" if output.endswith("\n") or not output else "\n"
-            is_shown = re.fullmatch(command.pattern(), output)
-            wrong = None if is_shown else f"$ {command.text}\n  shows {command.shown}\n  prints {output!r}"
+            wrong = None
+            if not re.fullmatch(command.pattern(), output):
+                wrong = f"$ {command.text}\n  shows {command.shown}\n  prints {output!r}"
         self.add(where, wrong)
 
     def check_page(self, page, tool):

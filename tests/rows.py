@@ -1,12 +1,14 @@
 #!/usr/bin/env python3
-"""Runs the stored rows of `tool_table` by a program: its files, its standard input, and what they must come to.
+"""Runs the stored rows of `tool_table` by a program: its files, its standard input, and what they
+must come to.
 
-    tests/rows.py TOOL    runs each row by the ir-tools program of this name; the last line has the counts
+    tests/rows.py TOOL    by the ir-tools program of this name; the last line has the counts
 
-The test program `tool_table` runs the rows over objects in memory; here they run over files of a scratch folder and real
-streams. Left out are rows whose streams fail or take few bytes, and those of a file whose name is empty or no UTF-8.
-What a row expects was written by hand or by the other scripts of this folder. Of rows that only read a command line,
-those that are a fault of its words are run.
+The test program `tool_table` runs the rows over objects in memory; here they run over files of a
+scratch folder and real streams. Left out are rows whose streams fail or take few bytes, and those
+of a file whose name is empty or no UTF-8. What a row expects was written by hand or by the other
+scripts of this folder. Of rows that only read a command line, those that are a fault of its words
+are run.
 """
 import concurrent.futures
 import itertools
@@ -53,20 +55,23 @@ def content_of(key, rest):
         return b"".join([(b"%d" % n).join(pieces) for n in range(int(first), int(last))])
     if key == b"sums":
         first, last = map(int, rest.split(b" "))
-        return b"".join(b"%%%d = add i32 %%%d, %%%d\n" % (n, n - 2, n - 1) for n in range(first, last + 1))
+        numbers = range(first, last + 1)
+        return b"".join(b"%%%d = add i32 %%%d, %%%d\n" % (n, n - 2, n - 1) for n in numbers)
     return b""
 
 
 class Row:
-    """A run: its words, the files that are new, its standard input, whether its streams fail, and what it must come to."""
+    """A run: its words, the files that are new, its standard input, whether its streams fail, and
+    the text of what it must come to."""
 
     def __init__(self, line, files, given, is_failing):
         self.line, self.words, self.files = line, words_of(line), files
         self.given, self.is_failing, self.expected = given, is_failing, b""
 
     def section(self, name):
-        """The lines of the expected text after this one, up to the next that begins no line of content."""
-        found = re.search(rb"^" + re.escape(name) + rb"\n((?:[|+] .*\n|[|+]\n)*)", self.expected, re.M)
+        """The lines of content after this line of the expected text."""
+        lines = rb"^" + re.escape(name) + rb"\n((?:[|+] .*\n)*)"
+        found = re.search(lines, self.expected, re.M)
         return found[1] if found else b""
 
     def values(self, key):
@@ -75,7 +80,7 @@ class Row:
 
 
 def is_host_name(name):
-    """Whether a file of this name can be made in a scratch folder, and opened by the program: its name is UTF-8."""
+    """Whether a file of this name can be made in a scratch folder, and opened by the program."""
     is_text = name.decode(errors="replace").encode() == name
     return is_text and name != b"" and not name.startswith(b"/") and b"\0" not in name
 
@@ -126,8 +131,10 @@ def write(room, name, data):
 
 def run(tool, words, given, room):
     """The status of a run, and what it wrote to its streams, as rows have it."""
-    made = subprocess.run([os.fsencode(tool), *words], input=given, capture_output=True, cwd=room, timeout=60)
-    return made.returncode, stored.printed(made.stdout).encode(), stored.printed(made.stderr).encode()
+    words = [os.fsencode(tool), *words]
+    made = subprocess.run(words, input=given, capture_output=True, cwd=room, timeout=600)
+    streams = [stored.printed(stream).encode() for stream in (made.stdout, made.stderr)]
+    return made.returncode, *streams
 
 
 def difference(tool, row, room):
@@ -157,7 +164,8 @@ def run_group(tool, group):
                 write(room, name, data)
             names = [name for line in row.values(b"files") for name in words_of(line)]
             names += [words_of(name)[0] for name in row.values(b"wrote")]
-            if row.is_failing or not all(map(is_host_name, names)) or any(b"\0" in it for it in row.words):
+            has_zero = any(b"\0" in word for word in row.words)
+            if row.is_failing or has_zero or not all(map(is_host_name, names)):
                 left_out += 1
                 continue
             told = difference(tool, row, room)
@@ -187,7 +195,7 @@ def main():
     left_out, passed, wrong = (sum(column, type(column[0])()) for column in zip(*results))
     for it in wrong:
         print(f"tests/rows.py: {it[:1000]}")
-    print(f"rows: {left_out} left out, whose streams fail, or whose files have names that the host cannot have")
+    print(f"{left_out} left out, whose streams fail, or whose files the host cannot have")
     print(f"{passed} passed, {len(wrong)} failed")
     sys.exit(1 if wrong else 0)
 
