@@ -5,7 +5,6 @@
 
 The last line has the counts.
 
-
 A command is a line of a code block (indented by four spaces, or between ```) that begins with `$ `.
 It goes on in the next line after a backslash, and to the end of a here-document. What it shows are
 the lines up to the next command or the end of the block; a line `...` or `…` of them means any
@@ -15,8 +14,8 @@ with status 0. Standard output and standard error are compared together, as a te
 The commands of a page run in the order of the page, in one scratch folder that has what the
 checkout has: `./ir-tools` is TOOL there (./ir-tools of the checkout where none is given), and the
 tools can be called by their names too. What they write has to be in `scratch/`. A command of a
-program that is not installed is skipped with the rest of its block, and so is one that has `…`, and
-one of NOT_RUN.
+program that is not installed is skipped with the rest of its block; one that has `…`, and one of
+NOT_RUN, is skipped alone.
 """
 import argparse
 import os
