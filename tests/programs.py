@@ -147,13 +147,13 @@ def check():
 
 
 def run(tool, cutter, runner):
-    """What is otherwise than with the native programs."""
+    """Each run: nothing, or what is otherwise than with the native program."""
     for folder in FOLDERS:
         found = results(folder)
         for program in programs(folder):
             for which, told_here in program.runs(tool, cutter, runner):
-                if told_here != found[program.name][1:]:
-                    yield f"{program.name}, {which}: {told_here}, and natively {found[program.name][1:]}"
+                is_same = told_here == found[program.name][1:]
+                yield None if is_same else f"{program.name}, {which}: {told_here}, and natively {found[program.name][1:]}"
 
 
 def main():
@@ -163,9 +163,12 @@ def main():
     tool = sys.argv[2] if len(sys.argv) > 2 else None
     ours = [tool, "llvm-extract"], [tool, "lli"]
     tools = {"--run": ours, "--link": (ours[0], ["lli-19"]), "--cut": (["llvm-extract-19"], ours[1])}.get(sys.argv[1])
-    wrong = list(run(tool, *tools) if tools else check())
+    checked = list(run(tool, *tools) if tools else check())
+    wrong = [it for it in checked if it]
     for it in wrong:
         print(f"tests/programs.py: {it}")
+    if tools:
+        print(f"{len(checked) - len(wrong)} passed, {len(wrong)} failed")
     sys.exit(1 if wrong else 0)
 
 
