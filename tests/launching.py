@@ -171,6 +171,8 @@ class Launcher(Scratch):
         (self.top / "crates.txt").write_text("ir_tools\n")
         shutil.copytree(ROOT / "release", self.top / "release")
         shutil.copy(ROOT / "ir-tools", self.top)
+        # (the copies of a checkout that cannot be written)
+        subprocess.run(["chmod", "-R", "u+w", self.top], check=True)
         with gzip.open(self.top / "release" / "ir-tools.gz", "wb", 1) as packed:
             packed.write(pathlib.Path(TOOL).read_bytes())
         self.sources = call([self.top / "release" / "sum"]).stdout
