@@ -2,7 +2,10 @@
 """Runs the stored rows of `tool_table` by a program: its files, its standard input, and what they
 must come to.
 
-    tests/rows.py TOOL    by the ir-tools program of this name; the last line has the counts
+    tests/rows.py TOOL            by the ir-tools program of this name
+    tests/rows.py TOOL --large    those whose files have more than a MiB among them
+
+The last line has the counts.
 
 The test program `tool_table` runs the rows over objects in memory; here they run over files of a
 scratch folder and real streams. Left out are rows whose streams fail or take few bytes, and those
@@ -22,6 +25,8 @@ import tempfile
 sys.dont_write_bytecode = True
 import stored
 
+# The most bytes of the files of a row that is not large.
+LARGE = 1 << 20
 ESCAPES = re.compile(rb"\\(x[0-9a-f]{2}|.)", re.S)
 
 
@@ -60,9 +65,25 @@ def content_of(key, rest):
     return b""
 
 
+def size_of(key, rest):
+    """About as many bytes as a line adds."""
+    if key == b"each":
+        first, last, text = rest.split(b" ", 2)
+        return (int(last) - int(first)) * len(text)
+    if key == b"*":
+        count, text = rest.split(b" ", 1)
+        return int(count) * len(text)
+    return len(rest)
+
+
+def content(lines):
+    """The bytes that lines add up to."""
+    return b"".join([content_of(key, rest) for key, rest in lines])
+
+
 class Row:
-    """A run: its words, the files that are new, its standard input, whether its streams fail, and
-    the text of what it must come to."""
+    """A run: its words, the files that are new and its standard input, each by the lines that give
+    their bytes, whether its streams fail, and the text of what it must come to."""
 
     def __init__(self, line, files, given, is_failing):
         self.line, self.words, self.files = line, words_of(line), files
@@ -92,16 +113,17 @@ def expectations():
 
 
 def groups():
-    """The rows, in groups that share files."""
-    group, files, name, given, failing = [], [], None, b"", False
+    """The rows, in groups that share files, each with the size of these files."""
+    group, size, files, given, failing = [], 0, [], [], False
+    lines = given
     expected = iter(expectations())
     for line in (stored.CRATES / "tool_table" / "stdin").read_bytes().split(b"\n"):
         key, _, rest = line.partition(b" ")
         if key == b"file":
-            files.append([words_of(rest)[0], b""])
-            name = files[-1]
+            lines = []
+            files.append((words_of(rest)[0], lines))
         elif key == b"input":
-            name = None
+            lines = given
         elif key in (b"fails", b"room"):
             failing = True
         elif key == b"run":
@@ -110,15 +132,15 @@ def groups():
             if line != rest:
                 sys.exit(f"tests/rows.py: expected a row of {rest!r}, found {line!r}")
             group.append(row)
-            files, name, given, failing = [], None, b"", False
+            files, given, failing = [], [], False
+            lines = given
         elif key == b"clear":
-            yield group
-            group, files, name = [], [], None
-        elif name is not None:
-            name[1] += content_of(key, rest)
+            yield size, group
+            group, size, files, lines = [], 0, [], given
         else:
-            given += content_of(key, rest)
-    yield group
+            lines.append((key, rest))
+            size += size_of(key, rest)
+    yield size, group
 
 
 def write(room, name, data):
@@ -143,7 +165,7 @@ def difference(tool, row, room):
     for name in written:
         os.makedirs(os.path.dirname(os.path.join(room, name)), exist_ok=True)
     expected = int(row.values(b"status")[0]), row.section(b"output"), row.section(b"errors")
-    found = run(tool, row.words, row.given, room)
+    found = run(tool, row.words, content(row.given), room)
     if found != expected:
         return f"found {found}, expected {expected}"
     for name, text in zip(row.values(b"wrote"), written):
@@ -160,8 +182,8 @@ def run_group(tool, group):
     with tempfile.TemporaryDirectory() as room:
         room = os.fsencode(room)
         for row in group:
-            for name, data in row.files:
-                write(room, name, data)
+            for name, lines in row.files:
+                write(room, name, content(lines))
             names = [name for line in row.values(b"files") for name in words_of(line)]
             names += [words_of(name)[0] for name in row.values(b"wrote")]
             has_zero = any(b"\0" in word for word in row.words)
@@ -184,13 +206,15 @@ def run_reading(tool, line):
 
 
 def main():
-    tool = str(pathlib.Path(sys.argv[1]).resolve())
+    tool, is_large = str(pathlib.Path(sys.argv[1]).resolve()), sys.argv[2:] == ["--large"]
+    chosen = [group for size, group in groups() if (size > LARGE) == is_large]
     text = (stored.CRATES / "tool_table" / "stdout").read_bytes()
     faults = re.findall(rb"^(.*) => ([a-z-]+: usage: .*)$", text, re.M)
     faults = [(words.strip(), fault) for words, fault in faults if b"\\x00" not in words]
+    faults = [] if is_large else faults
     with concurrent.futures.ProcessPoolExecutor() as pool:
         tools = itertools.repeat(tool)
-        results = list(pool.map(run_group, tools, groups(), chunksize=30))
+        results = list(pool.map(run_group, tools, chosen, chunksize=1 if is_large else 30))
         results += pool.map(run_reading, tools, faults, chunksize=30)
     left_out, passed, wrong = (sum(column, type(column[0])()) for column in zip(*results))
     for it in wrong:
