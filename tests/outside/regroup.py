@@ -1,0 +1,147 @@
+#!/usr/bin/env python3
+"""Links parts in every grouping that keeps their order, and compares each with linking all of them
+at once; cuts modules in two, links the halves, and compares that with the module.
+
+    tests/outside/regroup.py [--tool PROGRAM] [--jobs N] again       the cases that the gate runs
+    tests/outside/regroup.py [--tool PROGRAM] [--jobs N] SEED COUNT  COUNT cases of that seed
+    tests/outside/regroup.py [--tool PROGRAM] case SEED NUMBER       one of them, kept as files
+    tests/outside/regroup.py [--tool PROGRAM] parts FILE FILE ..     these parts in all groupings
+
+Two cases of three are sets of two to four parts (tests/outside/made.py). Each grouping must give
+the conflict that all at once have, or a program with the same output and end. Where an inner link
+is in conflict there must be a conflict at all.
+
+| what `llvm-link` reports | what must agree |
+|---|---|
+| a conflict, and no inner one | its kind and its name, and the inputs that the two parts are in |
+| a conflict in an inner link | that all at once are in conflict |
+| none | standard output, standard error and status of `lli` |
+
+The third one cuts a module by random words of `llvm-extract` and the same with `--delete`: a
+program of tests/programs or tests/linked, or what made parts are linked to. The halves must have
+no conflict, and their link each definition of the module once. Where the order of symbols is that
+of the module, and no local function or alias is named main, it must run as the module does.
+
+A case that differs is made smaller and kept in a folder that is named. The last line counts cases.
+"""
+import multiprocessing
+import os
+import pathlib
+import sys
+import tempfile
+
+sys.dont_write_bytecode = True
+HERE = pathlib.Path(__file__).resolve().parent
+sys.path[:0] = [str(HERE), str(HERE.parent)]
+import cut
+import grouped
+from paths import Chance
+from regrouped import Tool, smaller
+
+# The seed and the number of the gate's cases, and how many differing cases are made smaller.
+SEED, COUNT, FEW = 66, 2000, 12
+# Where files cost little to write, if there is such a place.
+MEMORY = "/dev/shm" if os.access("/dev/shm", os.W_OK) else None
+
+
+def case_of(seed, number, tool):
+    """The case of this number."""
+    chance = Chance(seed * 1000003 + number)
+    for _ in range(4):
+        chance.below(2)
+    return cut.Cut(chance, tool) if number % 3 == 2 else grouped.made_set(chance)
+
+
+def compared(program, seed, number):
+    """What differs in a case, and what it was."""
+    with tempfile.TemporaryDirectory(dir=MEMORY) as room:
+        tool = Tool(program, room)
+        case = case_of(seed, number, tool)
+        return number, case.differences(tool), case.kinds
+
+
+def keep(program, seed, number, folder, is_smaller):
+    """Writes the files of a case, and what differs in it; gives what differs."""
+    with tempfile.TemporaryDirectory(dir=MEMORY) as room:
+        tool = Tool(program, room)
+        case = case_of(seed, number, tool)
+        case.differences(tool)
+        if is_smaller:
+            case = smaller(case, tool)
+        place = folder / str(number)
+        place.mkdir(parents=True, exist_ok=True)
+        told = case.differences(tool)
+        for name, text in case.files().items():
+            (place / name).write_bytes(text.encode("latin-1"))
+        (place / "differs.txt").write_text("\n".join(told) + "\n")
+        return told
+
+
+def run(program, seed, numbers, jobs):
+    """Compares cases on several processors, and keeps what differs."""
+    kinds, differing, folder = {}, [], None
+    with multiprocessing.Pool(jobs) as pool:
+        results = pool.imap_unordered(Compared(program, seed), numbers, chunksize=8)
+        for number, told, found in results:
+            for kind in found:
+                kinds[kind] = kinds.get(kind, 0) + 1
+            if told:
+                folder = folder or pathlib.Path(tempfile.mkdtemp(prefix=f"regroup.{seed}."))
+                told = keep(program, seed, number, folder, len(differing) < FEW)
+                differing.append(number)
+                print(f"case {number} of seed {seed}, kept in {folder / str(number)}:", flush=True)
+                print("\n".join(f"  {line}" for line in told), flush=True)
+    print(", ".join(f"{count} {kind}" for kind, count in sorted(kinds.items())))
+    print(f"{len(numbers)} cases, {len(differing)} differ")
+    return 1 if differing else 0
+
+
+def link_given(program, names):
+    """Links the parts of these files in all groupings."""
+    case = grouped.given_set([pathlib.Path(name).read_text("latin-1") for name in names])
+    with tempfile.TemporaryDirectory(dir=MEMORY) as room:
+        told = case.differences(Tool(program, room))
+    print("\n".join([*told, f"{len(case.groupings)} groupings, {len(told)} differ"]))
+    return 1 if told else 0
+
+
+class Compared:
+    """The comparison of a program and a seed, which a process of the pool calls by number."""
+
+    def __init__(self, program, seed):
+        self.program, self.seed = program, seed
+
+    def __call__(self, number):
+        return compared(self.program, self.seed, number)
+
+
+def option(words, name, otherwise):
+    """Takes an option and its value out of the words."""
+    if name not in words[:-1]:
+        return otherwise
+    at = words.index(name)
+    value = words[at + 1]
+    del words[at:at + 2]
+    return value
+
+
+def main(words):
+    program = str(pathlib.Path(option(words, "--tool", HERE.parents[1] / "ir-tools")).resolve())
+    jobs = int(option(words, "--jobs", os.cpu_count() or 1))
+    if words == ["again"]:
+        return run(program, SEED, range(COUNT), jobs)
+    if len(words) == 3 and words[0] == "case":
+        folder = pathlib.Path(tempfile.mkdtemp(prefix=f"regroup.{words[1]}."))
+        told = keep(program, int(words[1]), int(words[2]), folder, False)
+        print("\n".join([f"kept in {folder / words[2]}", *told]))
+        return 1 if told else 0
+    if words[:1] == ["parts"] and len(words) > 2:
+        return link_given(program, words[1:])
+    if len(words) != 2:
+        print(__doc__)
+        return 2
+    return run(program, int(words[0]), range(int(words[1])), jobs)
+
+
+if __name__ == "__main__":
+    sys.exit(main(sys.argv[1:]))

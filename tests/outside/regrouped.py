@@ -1,0 +1,78 @@
+"""What tests/outside/regroup.py has in common for both of its kinds of cases: the program in a
+folder of its own, what a run of it gives, and how a case is made smaller."""
+import pathlib
+import re
+import subprocess
+
+# How many steps a program is run for.
+STEPS = 20000
+# How often a case is tried while it is made smaller.
+TRIES = 400
+
+
+class Tool:
+    """The program, with a folder for its files. What it reads is known by the bytes, so that no
+    module is run twice."""
+
+    def __init__(self, program, room):
+        self.program, self.room, self.ends = program, pathlib.Path(room), {}
+
+    def run(self, *words, given=b""):
+        """The status, standard output and standard error."""
+        words = [word.encode("latin-1") for word in words]
+        made = subprocess.run([self.program, *words], input=given, capture_output=True,
+                              cwd=self.room, timeout=600)
+        return made.returncode, made.stdout, made.stderr
+
+    def write(self, name, data):
+        (self.room / name).write_bytes(data)
+
+    def end_of(self, module, *words, given=b""):
+        """The output and the end of a module."""
+        if (module, words, given) not in self.ends:
+            self.write("run", module)
+            steps = f"--max-steps={STEPS}"
+            self.ends[module, words, given] = self.run("lli", steps, "run", *words, given=given)
+        return self.ends[module, words, given]
+
+
+def kind_of_end(end):
+    """What the end of a run is counted as."""
+    status, _, line = end
+    words = line.decode("latin-1").partition(": ")[2].strip()
+    return "runs: " + (re.sub(r" @.*", "", words) if words else "exit")
+
+
+def entities(text):
+    """The entries of a text: a function with its body is one."""
+    found, is_inside = [], False
+    for line in text.splitlines():
+        if is_inside:
+            found[-1] += "\n" + line
+            is_inside = line != "}"
+        else:
+            found.append(line)
+            is_inside = line.startswith("define") and not line.rstrip().endswith("}")
+    return found
+
+
+def kinds_of(told):
+    """What differs, without what it is in."""
+    return {line.partition(":")[0] for line in told}
+
+
+def smaller(case, tool):
+    """A case with fewer entries, by as many tries as are allowed, in which the same differs."""
+    wanted, tries = kinds_of(case.differences(tool)), 0
+    size = max(1, case.size() // 2)
+    while True:
+        at, is_changed = 0, False
+        while at < case.size() and tries < TRIES:
+            tried, tries = case.without(at, at + size), tries + 1
+            if kinds_of(tried.differences(tool)) & wanted:
+                case, is_changed = tried, True
+            else:
+                at += size
+        if tries >= TRIES or size == 1 and not is_changed:
+            return case
+        size = max(1, size // 2)
