@@ -6,13 +6,16 @@ so on): where each of its names is, what is there, and what each of its function
 has the `main` that calls these.
 """
 
-VARIABLES = ["a", "b", "c", "a.1", "b.1", "a.2"]
+VARIABLES = ["a", "b", "c", "a.1", "b.1", "a.2", "a.1.1"]
 FUNCTIONS = ["f", "g", "f.1", "g.1"]
 LISTS = ["list", "list.1"]
 # A function of the host, which parts may define as well.
 HOST = "puts"
 TYPES = ["i8", "i16", "i32", "i32", "i64", "i128", "ptr", "ptr", "[3 x i16]", "%T", "%U"]
-BODIES = ["{ i8, i32 }", "{ i8, i32 }", "{ i32, i8 }", "<{ i8, i32 }>", "{ i8, [2 x i16] }"]
+# Bodies of structs, with a value each.
+BODIES = {"{ i8, i32 }": "{ i8 #, i32 % }", "{ i32, i8 }": "{ i32 #, i8 % }",
+          "<{ i8, i32 }>": "<{ i8 #, i32 % }>",
+          "{ i8, [2 x i16] }": "{ i8 #, [2 x i16] [i16 %, i16 %] }"}
 OPAQUE = ["opaque", "opaque", "{ i8 }", "{ %T }"]
 DEFINED = ["", "weak", "weak_odr", "linkonce", "linkonce_odr", "internal", "private",
            "available_externally"]
@@ -28,6 +31,7 @@ SHOW = ("define {} void @show(ptr %p) {{ %i = ptrtoint ptr %p to i64 "
         "br i1 %c, label %no, label %yes yes: %b = load i8, ptr %p %f = freeze i8 %b "
         "%w = zext i8 %f to i32 %y = call i32 @putchar(i32 %w) ret void no: ret void }}")
 TRY = ("define {} i32 @try(ptr %p, i32 %n) {{ %c = icmp eq ptr %p, null "
+       "%i = ptrtoint ptr %p to i64 %a = call i32 (ptr, ...) @printf(ptr @text, i64 %i) "
        "br i1 %c, label %no, label %yes yes: %r = call i32 %p(i32 %n) %w = zext i32 %r to i64 "
        "%z = call i32 (ptr, ...) @printf(ptr @text, i64 %w) ret i32 %r no: ret i32 -1 }}")
 HELPERS = ["declare i32 @printf(ptr, ...)", "declare i32 @putchar(i32)", TEXT, SHOW, TRY]
@@ -94,12 +98,13 @@ class Part:
         chance = self.chance
         if chance.below(3) == 0:
             self.lines.append(f'source_filename = "{chance.one_of("abc")}.c"')
-        self.lines += [f"%T = type {chance.one_of(BODIES)}", "%U = type { %T, ptr }"]
+        self.body = chance.one_of(list(BODIES)[:1] * 3 + list(BODIES))
+        self.lines += [f"%T = type {self.body}", "%U = type { %T, ptr }"]
         if chance.below(2):
             self.lines.append(f"%O = type {chance.one_of(OPAQUE)}")
             self.lines.append("@opaque = external global %O")
         if chance.below(3) == 0:
-            self.lines.append(f"%T.1 = type {chance.one_of(BODIES)}")
+            self.lines.append(f"%T.1 = type {chance.one_of(list(BODIES))}")
 
     # ---- what a name is
 
@@ -179,6 +184,9 @@ class Part:
             return str(self.chance.below(120))
         if ty == "ptr":
             return self.pointer()
+        if ty == "%T":
+            low, high = self.chance.below(100), self.chance.below(100)
+            return BODIES[self.body].replace("#", str(low)).replace("%", str(high))
         return "[i16 1, i16 2, i16 -3]" if ty == "[3 x i16]" else "zeroinitializer"
 
     def definition(self, name, kind, linkage):
@@ -255,11 +263,11 @@ class Part:
         """Constructors that are the part's own or are shared, and what is used."""
         chance = self.chance
         if chance.below(3) == 0:
-            rows = ", ".join(f"{{ i32, ptr, ptr }} {{ i32 {chance.below(3)}, ptr {name}, ptr null }}"
-                             for name in ["@init", chance.one_of(["@init", "null", "@init.1"])])
+            ty, names = "{ i32, ptr, ptr }", ["@init", chance.one_of(["@init", "null", "@init.1"])]
+            rows = ", ".join(f"{ty} {{ i32 {chance.below(3)}, ptr {name}, ptr null }}"
+                             for name in names)
             array = chance.one_of(["ctors", "ctors", "ctors", "dtors"])
-            self.lines.append(f"@llvm.global_{array} = appending global [2 x {{ i32, ptr, ptr }}] "
-                              f"[{rows}]")
+            self.lines.append(f"@llvm.global_{array} = appending global [2 x {ty}] [{rows}]")
             for name in ("init", "init.1"):
                 linkage = chance.one_of(["internal", "internal", "weak", "linkonce", "private"])
                 self.lines.append(
@@ -289,7 +297,9 @@ class Part:
         """Names that a linker may have to change with care, and a main of the part's own."""
         chance = self.chance
         if chance.below(6) == 0:
-            self.lines.append(f'@llvm = internal global i32 {self.number}')
+            self.lines.append(f"@llvm = internal global i32 {self.number}")
+        if chance.below(12) == 0:
+            self.lines.append(f"@llvm_.1 = weak global i32 {self.number}")
         if chance.below(6) == 0:
             self.lines.append(f'@"a b" = private global i32 {self.number}')
         self.has_struct_call = chance.below(8) == 0
@@ -303,6 +313,8 @@ class Part:
         found = []
         for name in self.named("variable"):
             found.append(f"call void @show(ptr @{name})")
+            if self.plan.types[name] == "%T" and self.chance.below(3) == 0:
+                found.append(f"call void @show(ptr getelementptr (%T, ptr @{name}, i64 0, i32 1))")
         for name in self.named("list"):
             found += self.seen_list(name)
         for name in self.named("function"):
@@ -328,7 +340,18 @@ def main_of(part, count):
     """The lines of the main that calls what each part prints with."""
     others = [f"declare void @p{number}()" for number in range(count) if number != part.number]
     calls = " ".join(f"call void @p{number}()" for number in range(count))
-    return [*others, f"define i32 @main() {{ {calls} %v = load i32, ptr @own ret i32 %v }}"]
+    body = f"{{ {calls} %v = load i32, ptr @own ret i32 %v }}"
+    if part.chance.below(8) == 0:
+        return [*others, f"define internal i32 @start() {body}", "@main = alias i32 (), ptr @start"]
+    return [*others, f"define i32 @main() {body}"]
+
+
+def other_main(part):
+    """A main that does not count, or is weak."""
+    linkage = part.chance.one_of(["internal", "internal", "private", "linkonce", "weak"])
+    if linkage == "private":
+        return "@main = private alias i32 (i32), ptr @mine"
+    return f"define {linkage} i32 @main() {{ ret i32 {part.number} }}"
 
 
 def made(chance, count):
@@ -341,7 +364,6 @@ def made(chance, count):
         if part.number == chosen:
             part.lines += main_of(part, count)
         elif chance.below(6) == 0:
-            linkage = chance.one_of(["internal", "internal", "private", "linkonce", "weak"])
-            part.lines.append(f"define {linkage} i32 @main() {{ ret i32 {part.number} }}")
+            part.lines.append(other_main(part))
     order = sorted(parts, key=lambda _: chance.below(1000))
     return [part.text() for part in order]

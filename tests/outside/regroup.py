@@ -33,10 +33,11 @@ import tempfile
 sys.dont_write_bytecode = True
 HERE = pathlib.Path(__file__).resolve().parent
 sys.path[:0] = [str(HERE), str(HERE.parent)]
-import cut
-import grouped
+import cuts
+import groupings
+import known
 from paths import Chance
-from regrouped import Tool, smaller
+from tool import Tool, smaller
 
 # The seed and the number of the gate's cases, and how many differing cases are made smaller.
 SEED, COUNT, FEW = 66, 2000, 12
@@ -46,10 +47,12 @@ MEMORY = "/dev/shm" if os.access("/dev/shm", os.W_OK) else None
 
 def case_of(seed, number, tool):
     """The case of this number."""
+    if number < len(known.SETS):
+        return groupings.given_set(known.SETS[number])
     chance = Chance(seed * 1000003 + number)
     for _ in range(4):
         chance.below(2)
-    return cut.Cut(chance, tool) if number % 3 == 2 else grouped.made_set(chance)
+    return cuts.Cut(chance, tool) if number % 3 == 2 else groupings.made_set(chance)
 
 
 def compared(program, seed, number):
@@ -98,7 +101,7 @@ def run(program, seed, numbers, jobs):
 
 def link_given(program, names):
     """Links the parts of these files in all groupings."""
-    case = grouped.given_set([pathlib.Path(name).read_text("latin-1") for name in names])
+    case = groupings.given_set([pathlib.Path(name).read_text("latin-1") for name in names])
     with tempfile.TemporaryDirectory(dir=MEMORY) as room:
         told = case.differences(Tool(program, room))
     print("\n".join([*told, f"{len(case.groupings)} groupings, {len(told)} differ"]))

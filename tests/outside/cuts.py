@@ -3,7 +3,7 @@ import re
 
 import made
 import programs
-from regrouped import entities, kind_of_end
+from tool import entities, kind_of_end, steps_by
 
 NAME = r'@("[^"]*"|[-\w$.]+)'
 FUNCTION = re.compile(rf"(declare|define)\b[^@]*?{NAME} ?\(")
@@ -29,10 +29,9 @@ class Symbols:
             self.note(found[2], entity, found[0], found[1] == "define")
         found = GLOBAL.match(head)
         if found:
-            linkage = re.split(r"\b(?:global|constant|alias)\b", found[2])[0]
-            is_alias = re.search(r"\balias\b", found[2].partition('"')[0]) is not None
+            linkage, kind = re.match(r"(.*?)\b(global|constant|alias)\b", found[2]).groups()
             is_declared = re.search(r"\b(?:external|extern_weak)\b", linkage)
-            (self.aliases if is_alias else self.variables).append(found[1])
+            (self.aliases if kind == "alias" else self.variables).append(found[1])
             self.note(found[1], entity, linkage, not is_declared)
 
     def note(self, name, entity, head, is_defined):
@@ -61,7 +60,7 @@ class Cut:
 
     def __init__(self, chance, tool):
         self.kinds, self.words, self.given, self.text = [], [], b"", ""
-        self.source = "made"
+        self.source, self.steps = "made", steps_by(chance)
         if chance.below(2):
             self.linked(chance, tool)
         else:
@@ -161,8 +160,8 @@ class Cut:
         if "main" in symbols.local and "main" not in symbols.variables:
             self.kinds.append("cuts with a local main")
             return
-        whole = tool.end_of(self.text.encode("latin-1"), *self.words, given=self.given)
-        again = tool.end_of(joined, *self.words, given=self.given)
+        whole, again = (tool.end_of(module, self.steps, *self.words, given=self.given)
+                        for module in (self.text.encode("latin-1"), joined))
         self.kinds.append(kind_of_end(whole))
         if whole != again:
             yield f"end: of the module {whole!r:.300}; of its halves joined {again!r:.300}"

@@ -7,7 +7,7 @@ import itertools
 import re
 
 import made
-from regrouped import entities, kind_of_end
+from tool import STEPS, entities, kind_of_end, steps_by
 
 # How many groupings of a set of parts are tried.
 MOST = 5
@@ -53,7 +53,7 @@ def made_set(chance):
     tried = sorted(tried, key=lambda _: chance.below(1000))[:MOST - 1]
     tried.append(alone(chance.one_of([at_once, *tried]), chance.below(count)))
     tried += [(at_once,)] if chance.below(4) == 0 else []
-    return Grouped(texts, tried, chance.below(4) == 0)
+    return Grouped(texts, tried, chance.below(4) == 0, steps_by(chance))
 
 
 def given_set(texts):
@@ -61,27 +61,32 @@ def given_set(texts):
     count = len(texts)
     at_once = tuple(range(count))
     tried = [*groupings(0, count), *(alone(at_once, part) for part in at_once), (at_once,)]
-    return Grouped(texts, [one for one in tried if one != at_once], True)
+    return Grouped(texts, [one for one in tried if one != at_once], True, STEPS)
 
 
 class Grouped:
     """A set of parts, and the groupings that are tried. What is linked first is handed on as text
     or as bitcode."""
 
-    def __init__(self, texts, tried, is_text):
-        self.texts, self.groupings, self.is_text, self.kinds = texts, tried, is_text, []
+    def __init__(self, texts, tried, is_text, steps):
+        self.texts, self.groupings, self.is_text = texts, tried, is_text
+        self.steps, self.kinds = steps, []
 
     # ---- links
 
     def result(self, tool, grouping):
         """What a grouping comes to: ("linked", bytes), ("conflict", kind, name, the inputs),
         ("inner conflict",) or ("refused", the line)."""
-        inner = [self.input_of(tool, each) for each in grouping]
-        if None in inner:
+        results = [self.result(tool, each) for each in grouping if not isinstance(each, int)]
+        for result in results:
+            if result[0] == "refused":
+                return result
+        if any(result[0] != "linked" for result in results):
             return ("inner conflict",)
-        if tuple(inner) not in self.known:
-            self.known[tuple(inner)] = self.link(tool, inner)
-        return self.known[tuple(inner)]
+        names = tuple(self.input_of(tool, each) for each in grouping)
+        if names not in self.known:
+            self.known[names] = self.link(tool, names)
+        return self.known[names]
 
     def link(self, tool, names):
         form = ["-S"] if self.is_text else []
@@ -95,17 +100,15 @@ class Grouped:
         return "conflict", kind, name, (names.index(one), names.index(other))
 
     def input_of(self, tool, grouping):
-        """The name of the file that has what a grouping comes to, or None. Groupings of the same
-        parts that come to the same bytes have one file."""
+        """The name of the file that has what a grouping comes to. Groupings of the same parts
+        that come to the same bytes have one file."""
         if isinstance(grouping, int):
             return f"{grouping}.ll"
-        result = self.result(tool, grouping)
-        if result[0] != "linked":
-            return None
-        key = tuple(parts_of(grouping)), result[1]
+        linked = self.result(tool, grouping)[1]
+        key = tuple(parts_of(grouping)), linked
         if key not in self.files_of:
             self.files_of[key] = f"joined{len(self.files_of)}.bc"
-            tool.write(self.files_of[key], result[1])
+            tool.write(self.files_of[key], linked)
         return self.files_of[key]
 
     # ---- comparisons
@@ -119,7 +122,7 @@ class Grouped:
         if at_once[0] == "refused":
             return [f"refused: {at_once[1].strip()}"]
         if at_once[0] == "linked":
-            self.kinds.append(kind_of_end(tool.end_of(at_once[1])))
+            self.kinds.append(kind_of_end(tool.end_of(at_once[1], self.steps)))
         else:
             self.kinds.append(f"conflicts: {at_once[1]}")
         return [line for grouping in self.groupings
@@ -128,7 +131,9 @@ class Grouped:
     def compare(self, tool, at_once, grouping):
         result = self.result(tool, grouping)
         self.kinds.append("groupings")
-        if result[0] == "inner conflict":
+        if result[0] == "refused":
+            yield f"refused: {result[1].strip()}, of {grouping}"
+        elif result[0] == "inner conflict":
             self.kinds.append("groupings with an inner conflict")
             if at_once[0] == "linked":
                 yield f"inner conflict: {grouping}, and none at once"
@@ -136,11 +141,11 @@ class Grouped:
             yield f"conflict or not: at once {shown(at_once)}; {grouping} {shown(result)}"
         elif result[0] == "conflict":
             yield from self.compare_conflicts(at_once, result, grouping)
-        elif tool.end_of(at_once[1]) != tool.end_of(result[1]):
-            yield (f"end: at once {tool.end_of(at_once[1])}; "
-                   f"{grouping} {tool.end_of(result[1])}")
         elif at_once[1] != result[1]:
             self.kinds.append("groupings with other names")
+            ends = [tool.end_of(linked[1], self.steps) for linked in (at_once, result)]
+            if ends[0] != ends[1]:
+                yield f"end: at once {ends[0]}; {grouping} {ends[1]}"
 
     def compare_conflicts(self, at_once, result, grouping):
         """The kind and the name, and the parts: those of the inputs that have them."""
@@ -166,7 +171,7 @@ class Grouped:
                 kept += [] if first <= number < last else [entity]
                 number += 1
             texts.append("\n".join(kept) + "\n")
-        return Grouped(texts, self.groupings, self.is_text)
+        return Grouped(texts, self.groupings, self.is_text, self.steps)
 
     def files(self):
         return {f"{number}.ll": text for number, text in enumerate(self.texts)}

@@ -4,10 +4,10 @@ import pathlib
 import re
 import subprocess
 
-# How many steps a program is run for.
-STEPS = 20000
+# How many steps a program is run for, and, now and then, at most how many.
+STEPS, FEW = 20000, 400
 # How often a case is tried while it is made smaller.
-TRIES = 400
+TRIES = 800
 
 
 class Tool:
@@ -27,13 +27,18 @@ class Tool:
     def write(self, name, data):
         (self.room / name).write_bytes(data)
 
-    def end_of(self, module, *words, given=b""):
+    def end_of(self, module, steps, *words, given=b""):
         """The output and the end of a module."""
         if (module, words, given) not in self.ends:
             self.write("run", module)
-            steps = f"--max-steps={STEPS}"
-            self.ends[module, words, given] = self.run("lli", steps, "run", *words, given=given)
+            made = self.run("lli", f"--max-steps={steps}", "run", *words, given=given)
+            self.ends[module, words, given] = made
         return self.ends[module, words, given]
+
+
+def steps_by(chance):
+    """A bound on steps."""
+    return chance.one_of([STEPS, STEPS, STEPS, chance.below(FEW)])
 
 
 def kind_of_end(end):
@@ -62,17 +67,17 @@ def kinds_of(told):
 
 
 def smaller(case, tool):
-    """A case with fewer entries, by as many tries as are allowed, in which the same differs."""
+    """A case with fewer entries, by as many tries as are allowed, in which the same differs. The
+    last entries, which name others and are named by none, are left out first."""
     wanted, tries = kinds_of(case.differences(tool)), 0
-    size = max(1, case.size() // 2)
+    size = max(1, case.size() // 4)
     while True:
-        at, is_changed = 0, False
-        while at < case.size() and tries < TRIES:
-            tried, tries = case.without(at, at + size), tries + 1
+        end, is_changed = case.size(), False
+        while end > 0 and tries < TRIES:
+            tried, tries = case.without(max(0, end - size), end), tries + 1
             if kinds_of(tried.differences(tool)) & wanted:
                 case, is_changed = tried, True
-            else:
-                at += size
+            end -= size
         if tries >= TRIES or size == 1 and not is_changed:
             return case
         size = max(1, size // 2)
