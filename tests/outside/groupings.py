@@ -7,6 +7,7 @@ import itertools
 import re
 
 import made
+import small
 from tool import STEPS, entities, kind_of_end, steps_by
 
 # How many groupings of a set of parts are tried.
@@ -48,7 +49,8 @@ def alone(grouping, part):
 def made_set(chance):
     """A set of parts at random, and some groupings of it."""
     count = chance.one_of([2, 2, 3, 3, 3, 4])
-    texts, at_once = made.made(chance, count), tuple(range(count))
+    make, at_once = chance.one_of([made.made, made.made, small.small]), tuple(range(count))
+    texts = make(chance, count)
     tried = [one for one in groupings(0, count) if one != at_once]
     tried = sorted(tried, key=lambda _: chance.below(1000))[:MOST - 1]
     tried.append(alone(chance.one_of([at_once, *tried]), chance.below(count)))
