@@ -8,6 +8,7 @@ from tool import entities, kind_of_end, steps_by
 NAME = r'@("[^"]*"|[-\w$.]+)'
 FUNCTION = re.compile(rf"(declare|define)\b[^@]*?{NAME} ?\(")
 GLOBAL = re.compile(rf"{NAME} = (.*)", re.S)
+MODULES = sorted((programs.HERE / "modules").glob("*.ll"))
 LOCAL = re.compile(r"\b(internal|private) ")
 
 
@@ -82,8 +83,12 @@ class Cut:
 
     def program(self, chance, tool):
         """A program that clang-19 printed, of one part or linked."""
-        folder = programs.FOLDERS[chance.below(4) == 0]
-        program = chance.one_of(programs.programs(folder))
+        which = chance.below(5)
+        if which == 0:
+            path = chance.one_of(MODULES)
+            self.text, self.source = path.read_text("latin-1"), path.name
+            return
+        program = chance.one_of(programs.programs(programs.FOLDERS[which == 1]))
         texts = [path.read_bytes() for path in program.texts(chance.one_of(programs.LEVELS))]
         self.text = self.link(tool, texts) if len(texts) > 1 else texts[0].decode("latin-1")
         self.source = program.name

@@ -7,22 +7,23 @@ at once; cuts modules in two, links the halves, and compares that with the modul
     tests/outside/regroup.py [--tool PROGRAM] case SEED NUMBER       one of them, kept as files
     tests/outside/regroup.py [--tool PROGRAM] parts FILE FILE ..     these parts in all groupings
 
-Two cases of three are sets of two to four parts (tests/outside/made.py). Each grouping must give
-the conflict that all at once have, or a program with the same output and end. Where an inner link
-is in conflict there must be a conflict at all.
+Two cases of three are sets of two to four parts: first those of tests/outside/known.py, then sets
+at random, of tests/outside/made.py and tests/outside/small.py. Each grouping must agree with all
+at once:
 
 | what `llvm-link` reports | what must agree |
 |---|---|
-| a conflict, and no inner one | its kind and its name, and the inputs that the two parts are in |
-| a conflict in an inner link | that all at once are in conflict |
+| a conflict, and none in an inner link | its kind, its name, and the inputs that have the parts |
+| a conflict in an inner link | all at once are in conflict |
 | none | standard output, standard error and status of `lli` |
 
-The third one cuts a module by random words of `llvm-extract` and the same with `--delete`: a
-program of tests/programs or tests/linked, or what made parts are linked to. The halves must have
-no conflict, and their link each definition of the module once. Where the order of symbols is that
-of the module, and no local function or alias is named main, it must run as the module does.
+The third one cuts a module by random words of `llvm-extract`, and by the same with `--delete`. The
+module is a program of tests/programs, tests/linked or tests/modules, or made parts that were
+linked. The halves must have no conflict, and their link must have each definition of the module
+once. Where the order of symbols stays, and no local function or alias is named main, it must run
+as the module does.
 
-A case that differs is made smaller and kept in a folder that is named. The last line counts cases.
+A case that differs is reduced and kept in a folder, which is printed. The last line counts cases.
 """
 import multiprocessing
 import os
@@ -40,7 +41,7 @@ from paths import Chance
 from tool import Tool, smaller
 
 # The seed and the number of the gate's cases, and how many differing cases are made smaller.
-SEED, COUNT, FEW = 66, 2000, 12
+SEED, COUNT, SMALLER = 66, 2000, 12
 # Where files cost little to write, if there is such a place.
 MEMORY = "/dev/shm" if os.access("/dev/shm", os.W_OK) else None
 
@@ -90,7 +91,7 @@ def run(program, seed, numbers, jobs):
                 kinds[kind] = kinds.get(kind, 0) + 1
             if told:
                 folder = folder or pathlib.Path(tempfile.mkdtemp(prefix=f"regroup.{seed}."))
-                told = keep(program, seed, number, folder, len(differing) < FEW)
+                told = keep(program, seed, number, folder, len(differing) < SMALLER)
                 differing.append(number)
                 print(f"case {number} of seed {seed}, kept in {folder / str(number)}:", flush=True)
                 print("\n".join(f"  {line}" for line in told), flush=True)
