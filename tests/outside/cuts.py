@@ -8,7 +8,9 @@ from tool import entities, kind_of_end, steps_by
 NAME = r'@("[^"]*"|[-\w$.]+)'
 FUNCTION = re.compile(rf"(declare|define)\b[^@]*?{NAME} ?\(")
 GLOBAL = re.compile(rf"{NAME} = (.*)", re.S)
-MODULES = sorted((programs.HERE / "modules").glob("*.ll"))
+# Those of tests/modules without a type that the language leaves out.
+MODULES = sorted(path for path in (programs.HERE / "modules").glob("*.ll")
+                 if not re.search(r"\bdouble\b", path.read_text("latin-1")))
 LOCAL = re.compile(r"\b(internal|private) ")
 
 
@@ -96,7 +98,7 @@ class Cut:
         self.given = programs.INPUTS.get(program.name, b"")
 
     def choose(self, chance):
-        """Chosen names: at random, a first so many of each kind, or a few."""
+        """Chooses names: each at random, the first ones of each kind, or a few."""
         symbols = Symbols(self.text)
         kinds = [("--func", symbols.functions), ("--glob", symbols.variables),
                  ("--alias", symbols.aliases)]
@@ -118,11 +120,11 @@ class Cut:
 
     def halves(self, tool):
         """The texts of both halves, what is chosen and what is not, or the other way round."""
-        tool.write("whole.ll", self.text.encode("latin-1"))
+        tool.write("module.ll", self.text.encode("latin-1"))
         found = []
         for delete in ([], ["--delete"])[::-1 if self.is_turned else 1]:
             words = ["llvm-extract", "-S", "-o", "-", *delete, *self.flags, *self.chosen]
-            found.append(tool.run(*words, "whole.ll"))
+            found.append(tool.run(*words, "module.ll"))
         return found
 
     def differences(self, tool):
@@ -137,12 +139,12 @@ class Cut:
         joined = tool.run("llvm-link", "-S", "-o", "-", "one.ll", "other.ll")
         if joined[0] or joined[2]:
             return [f"not joined: {joined[0]} {joined[2].decode('latin-1').strip()}"]
-        whole = tool.run("llvm-link", "-S", "-o", "-", "whole.ll")[1].decode("latin-1")
-        found = self.compare_definitions(Symbols(whole), joined[1].decode("latin-1"))
+        plain = tool.run("llvm-link", "-S", "-o", "-", "module.ll")[1].decode("latin-1")
+        found = self.compare_definitions(Symbols(plain), joined[1].decode("latin-1"))
         texts = [output.decode("latin-1") for _, output, _ in halves]
         return [*found, *self.compare_runs(tool, texts, joined[1])]
 
-    def compare_definitions(self, whole, joined):
+    def compare_definitions(self, module, joined):
         """Each definition once, under its name, and a local one as external."""
         symbols = Symbols(joined)
         every = symbols.variables + symbols.functions + symbols.aliases
@@ -151,8 +153,8 @@ class Cut:
                 yield f"twice: @{name}"
         for name in symbols.local:
             yield f"local: @{name}"
-        for name in {**whole.defined, **symbols.defined}:
-            one, other = whole.defined.get(name), symbols.defined.get(name)
+        for name in {**module.defined, **symbols.defined}:
+            one, other = module.defined.get(name), symbols.defined.get(name)
             if one != other:
                 yield f"definition: @{name} is {one!r:.200}; joined it is {other!r:.200}"
 
@@ -165,11 +167,11 @@ class Cut:
         if "main" in symbols.local and "main" not in symbols.variables:
             self.kinds.append("cuts with a local main")
             return
-        whole, again = (tool.end_of(module, self.steps, *self.words, given=self.given)
-                        for module in (self.text.encode("latin-1"), joined))
-        self.kinds.append(kind_of_end(whole))
-        if whole != again:
-            yield f"end: of the module {whole!r:.300}; of its halves joined {again!r:.300}"
+        once, again = (tool.end_of(module, self.steps, *self.words, given=self.given)
+                       for module in (self.text.encode("latin-1"), joined))
+        self.kinds.append(kind_of_end(once))
+        if once != again:
+            yield f"end: of the module {once!r:.300}; of its halves joined {again!r:.300}"
 
     # ---- smaller cases
 
@@ -188,6 +190,6 @@ class Cut:
     def files(self):
         words = " ".join([*self.flags, *self.chosen])
         first = "what --delete keeps" if self.is_turned else "what is chosen"
-        return {"whole.ll": self.text,
+        return {"module.ll": self.text,
                 "words.txt": f"{words}\nThe first half is {first}.\n"
                              f"{self.source}, run with {self.words} and {self.given!r}\n"}

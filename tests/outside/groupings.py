@@ -77,7 +77,7 @@ class Grouped:
     # ---- links
 
     def result(self, tool, grouping):
-        """What a grouping comes to: ("linked", bytes), ("conflict", kind, name, the inputs),
+        """What linking in a grouping gives: ("linked", bytes), ("conflict", kind, name, the inputs),
         ("inner conflict",) or ("refused", the line)."""
         results = [self.result(tool, each) for each in grouping if not isinstance(each, int)]
         for result in results:
@@ -102,8 +102,8 @@ class Grouped:
         return "conflict", kind, name, (names.index(one), names.index(other))
 
     def input_of(self, tool, grouping):
-        """The name of the file that has what a grouping comes to. Groupings of the same parts
-        that come to the same bytes have one file."""
+        """The name of the file with the result of a grouping. Groupings of the same parts that
+        give the same bytes share one file."""
         if isinstance(grouping, int):
             return f"{grouping}.ll"
         linked = self.result(tool, grouping)[1]

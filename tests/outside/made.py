@@ -75,7 +75,7 @@ class Plan:
 
 
 class Part:
-    """One part. `has` tells what a name is in it: "variable", "function" or "list"."""
+    """One part. `has` maps a name to what it is there: "variable", "function" or "list"."""
 
     def __init__(self, plan, number, count):
         self.plan, self.chance, self.number = plan, plan.chance, number
@@ -198,7 +198,7 @@ class Part:
                 f"{self.chance.one_of(ALIGNMENTS)}")
 
     def function(self, name, linkage):
-        """Tells its tag, and calls and shows what the part has."""
+        """Returns its tag, and calls and shows what the part has."""
         tag, chance = self.plan.new_tag(), self.chance
         body = "".join(self.statement(n) for n in range(chance.below(3)))
         return (f"define {linkage} i32 @{name}(i32 %n) {{ %c = icmp sgt i32 %n, 0 "

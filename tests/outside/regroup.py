@@ -25,6 +25,7 @@ as the module does.
 
 A case that differs is reduced and kept in a folder, which is printed. The last line counts cases.
 """
+import functools
 import multiprocessing
 import os
 import pathlib
@@ -61,7 +62,8 @@ def compared(program, seed, number):
     with tempfile.TemporaryDirectory(dir=MEMORY) as room:
         tool = Tool(program, room)
         case = case_of(seed, number, tool)
-        return number, case.differences(tool), case.kinds
+        lines = case.differences(tool)
+        return number, lines + tool.killed, case.kinds
 
 
 def keep(program, seed, number, folder, is_smaller):
@@ -74,27 +76,27 @@ def keep(program, seed, number, folder, is_smaller):
             case = smaller(case, tool)
         place = folder / str(number)
         place.mkdir(parents=True, exist_ok=True)
-        told = case.differences(tool)
+        lines = case.differences(tool) + tool.killed
         for name, text in case.files().items():
             (place / name).write_bytes(text.encode("latin-1"))
-        (place / "differs.txt").write_text("\n".join(told) + "\n")
-        return told
+        (place / "differs.txt").write_text("\n".join(lines) + "\n")
+        return lines
 
 
 def run(program, seed, numbers, jobs):
     """Compares cases on several processors, and keeps what differs."""
     kinds, differing, folder = {}, [], None
     with multiprocessing.Pool(jobs) as pool:
-        results = pool.imap_unordered(Compared(program, seed), numbers, chunksize=8)
-        for number, told, found in results:
+        compare = functools.partial(compared, program, seed)
+        for number, lines, found in pool.imap_unordered(compare, numbers, chunksize=8):
             for kind in found:
                 kinds[kind] = kinds.get(kind, 0) + 1
-            if told:
+            if lines:
                 folder = folder or pathlib.Path(tempfile.mkdtemp(prefix=f"regroup.{seed}."))
-                told = keep(program, seed, number, folder, len(differing) < SMALLER)
+                lines = keep(program, seed, number, folder, len(differing) < SMALLER)
                 differing.append(number)
                 print(f"case {number} of seed {seed}, kept in {folder / str(number)}:", flush=True)
-                print("\n".join(f"  {line}" for line in told), flush=True)
+                print("\n".join(f"  {line}" for line in lines), flush=True)
     print(", ".join(f"{count} {kind}" for kind, count in sorted(kinds.items())))
     print(f"{len(numbers)} cases, {len(differing)} differ")
     return 1 if differing else 0
@@ -104,19 +106,9 @@ def link_given(program, names):
     """Links the parts of these files in all groupings."""
     case = groupings.given_set([pathlib.Path(name).read_text("latin-1") for name in names])
     with tempfile.TemporaryDirectory(dir=MEMORY) as room:
-        told = case.differences(Tool(program, room))
-    print("\n".join([*told, f"{len(case.groupings)} groupings, {len(told)} differ"]))
-    return 1 if told else 0
-
-
-class Compared:
-    """The comparison of a program and a seed, which a process of the pool calls by number."""
-
-    def __init__(self, program, seed):
-        self.program, self.seed = program, seed
-
-    def __call__(self, number):
-        return compared(self.program, self.seed, number)
+        lines = case.differences(Tool(program, room))
+    print("\n".join([*lines, f"{len(case.groupings)} groupings, {len(lines)} differ"]))
+    return 1 if lines else 0
 
 
 def option(words, name, otherwise):
@@ -136,9 +128,9 @@ def main(words):
         return run(program, SEED, range(COUNT), jobs)
     if len(words) == 3 and words[0] == "case":
         folder = pathlib.Path(tempfile.mkdtemp(prefix=f"regroup.{words[1]}."))
-        told = keep(program, int(words[1]), int(words[2]), folder, False)
-        print("\n".join([f"kept in {folder / words[2]}", *told]))
-        return 1 if told else 0
+        lines = keep(program, int(words[1]), int(words[2]), folder, False)
+        print("\n".join([f"kept in {folder / words[2]}", *lines]))
+        return 1 if lines else 0
     if words[:1] == ["parts"] and len(words) > 2:
         return link_given(program, words[1:])
     if len(words) != 2:

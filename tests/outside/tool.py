@@ -16,12 +16,15 @@ class Tool:
 
     def __init__(self, program, room):
         self.program, self.room, self.ends = program, pathlib.Path(room), {}
+        self.killed = []
 
     def run(self, *words, given=b""):
         """The status, standard output and standard error."""
         words = [word.encode("latin-1") for word in words]
         made = subprocess.run([self.program, *words], input=given, capture_output=True,
                               cwd=self.room, timeout=600)
+        if made.returncode < 0:
+            self.killed.append(f"killed: {made.args} by signal {-made.returncode}")
         return made.returncode, made.stdout, made.stderr
 
     def write(self, name, data):
@@ -61,9 +64,9 @@ def entities(text):
     return found
 
 
-def kinds_of(told):
+def kinds_of(differences):
     """What differs, without what it is in."""
-    return {line.partition(":")[0] for line in told}
+    return {line.partition(":")[0] for line in differences}
 
 
 def smaller(case, tool):
