@@ -74,6 +74,7 @@ def keep(program, seed, number, folder, is_smaller):
         case.differences(tool)
         if is_smaller:
             case = smaller(case, tool)
+        tool.killed.clear()
         place = folder / str(number)
         place.mkdir(parents=True, exist_ok=True)
         lines = case.differences(tool) + tool.killed

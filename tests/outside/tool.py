@@ -1,18 +1,17 @@
-"""What tests/outside/regroup.py has in common for both of its kinds of cases: the program in a
-folder of its own, what a run of it gives, and how a case is made smaller."""
+"""What both kinds of cases of tests/outside/regroup.py use: the program in a folder of its own,
+the entries of a text, and how a case is reduced."""
 import pathlib
 import re
 import subprocess
 
-# How many steps a program is run for, and, now and then, at most how many.
+# How many steps a program is run for, and at most how many where it is stopped early.
 STEPS, FEW = 20000, 400
 # How often a case is tried while it is made smaller.
 TRIES = 800
 
 
 class Tool:
-    """The program, with a folder for its files. What it reads is known by the bytes, so that no
-    module is run twice."""
+    """The program, with a folder for its files. No module is run twice."""
 
     def __init__(self, program, room):
         self.program, self.room, self.ends = program, pathlib.Path(room), {}
@@ -74,7 +73,7 @@ def smaller(case, tool):
     last entries, which name others and are named by none, are left out first."""
     wanted, tries = kinds_of(case.differences(tool)), 0
     size = max(1, case.size() // 4)
-    while True:
+    while wanted:
         end, is_changed = case.size(), False
         while end > 0 and tries < TRIES:
             tried, tries = case.without(max(0, end - size), end), tries + 1
@@ -82,5 +81,6 @@ def smaller(case, tool):
                 case, is_changed = tried, True
             end -= size
         if tries >= TRIES or size == 1 and not is_changed:
-            return case
+            break
         size = max(1, size // 2)
+    return case
