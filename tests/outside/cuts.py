@@ -8,6 +8,8 @@ from tool import entities, kind_of_end, steps_by
 NAME = r'@("[^"]*"|[-\w$.]+)'
 FUNCTION = re.compile(rf"(declare|define)\b[^@]*?{NAME} ?\(")
 GLOBAL = re.compile(rf"{NAME} = (.*)", re.S)
+# How many sets of parts are made until one is not in conflict.
+TRIES = 50
 # Those of tests/modules without a type that the language leaves out.
 MODULES = sorted(path for path in (programs.HERE / "modules").glob("*.ll")
                  if not re.search(r"\bdouble\b", path.read_text("latin-1")))
@@ -78,10 +80,12 @@ class Cut:
         return tool.run("llvm-link", "-S", "-o", "-", *names)[1].decode("latin-1")
 
     def linked(self, chance, tool):
-        """What made parts are linked to."""
-        while not self.text:
+        """What made parts are linked to: the first set that is not in conflict."""
+        for _ in range(TRIES):
             texts = made.made(chance, 1 + chance.below(3))
             self.text = self.link(tool, [text.encode("latin-1") for text in texts])
+            if self.text:
+                break
 
     def program(self, chance, tool):
         """A program that clang-19 printed, of one part or linked."""
