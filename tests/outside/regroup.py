@@ -42,7 +42,7 @@ from paths import Chance
 from tool import Tool, smaller
 
 # The seed and the number of the gate's cases, and how many differing cases are made smaller.
-SEED, COUNT, SMALLER = 66, 2000, 12
+SEED, COUNT, SMALLER = 66, 2000, 6
 # Where files cost little to write, if there is such a place.
 MEMORY = "/dev/shm" if os.access("/dev/shm", os.W_OK) else None
 
