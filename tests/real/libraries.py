@@ -31,7 +31,7 @@ ROWS = {
               "-I. -DBZ_NO_STDIO", {"census": "bzlib compress bzip2 bzip2recover"}),
     "libsecp256k1": (".", "src/secp256k1 src/precomputed_ecmult src/precomputed_ecmult_gen",
                      f"-I. -Iinclude -Isrc {SECP}", {"census": "src/*"}),
-    "lz4": ("lib", "lz4 lz4hc xxhash", "-I.", {"census": "*"}),
+    "lz4": ("lib", "lz4 lz4hc xxhash", "-I. -fwrapv", {"census": "*"}),
     "xxhash": (".", "xxhash", "-I. -DXXH_VECTOR=0", {"census": "*"}),
     "brotli": ("c", "common/* dec/*", "-Iinclude", {
         "census": "enc/*", "input": "tests/testdata/ukkonooa.compressed"}),
