@@ -2,7 +2,7 @@
 #include "driver.h"
 #include <libdeflate.h>
 
-#define SIZE 20000
+#define SIZE 4000
 static unsigned char data[SIZE], packed[2 * SIZE], unpacked[SIZE];
 
 static void round_trip(int level) {

@@ -33,14 +33,14 @@ ROWS = {
                      f"-I. -Iinclude -Isrc {SECP}", {"census": "src/*"}),
     "lz4": ("lib", "lz4 lz4hc xxhash", "-I. -fwrapv", {"census": "*"}),
     "xxhash": (".", "xxhash", "-I. -DXXH_VECTOR=0", {"census": "*"}),
-    "brotli": ("c", "common/* dec/*", "-Iinclude", {
+    "brotli": ("c", "common/* dec/*", "-Iinclude -DBROTLI_BUILD_PORTABLE", {
         "census": "enc/*", "input": "tests/testdata/ukkonooa.compressed"}),
     "libdeflate": (".", "lib/*", "-I. -D__has_attribute(x)=0", {"census": "lib/x86/*"}),
     "mbedtls": ("library", MBEDTLS, f"-I../include -I. -DMBEDTLS_USER_CONFIG_FILE="
                 f'"{HERE}/mbedtls_config.h"', {"census": "*"}),
     "libsodium": ("src/libsodium", " ".join(f"crypto_{it}" for it in SODIUM.split())
                   + " sodium/utils", "-Iinclude -Iinclude/sodium -DCONFIGURED "
-                  "-DNATIVE_LITTLE_ENDIAN -DHAVE_TI_MODE -include stdio.h", {
+                  "-DNATIVE_LITTLE_ENDIAN -DHAVE_TI_MODE", {
                       "census": "crypto_*/* crypto_*/*/* crypto_*/*/*/* randombytes/* sodium/*"}),
     "libzstd": ("lib", "", "-I. -Icommon -DZSTD_DISABLE_ASM -DDYNAMIC_BMI2=0 -DXXH_NAMESPACE=ZSTD_",
                 {"census": "common/* compress/* decompress/* dictBuilder/*"}),
