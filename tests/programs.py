@@ -22,8 +22,8 @@ import tempfile
 HERE = pathlib.Path(__file__).resolve().parent
 FOLDERS = [HERE / "programs", HERE / "linked"]
 LEVELS = (0, 2)
-# No position-independent tables, no vectors, no calls that the source does not write.
-FLAGS = ["-fno-pie", "-Wl,-no-pie", "-fno-vectorize", "-fno-slp-vectorize", "-fno-builtin-calloc", "-U__OPTIMIZE__"]
+# The flags of examples/cflags, and one for the linker of native programs.
+FLAGS = [*(HERE.parent / "examples" / "cflags").read_text().split(), "-Wl,-no-pie"]
 # These are compiled with no flag but the level.
 PLAIN = {"bits", "fibonacci", "list", "machine", "matrix", "queens", "setup", "sieve", "sort", "text"}
 # Some parts have tentative definitions, which are one variable; others are C++, of which the language has no exceptions and no guards.

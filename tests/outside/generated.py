@@ -21,8 +21,8 @@ ROOT = pathlib.Path(__file__).resolve().parents[2]
 LEVELS = ("-O0", "-O1", "-O2", "-Os")
 # Fields of packed structs are left out, since what points to one may be misaligned, which is undefined.
 SHAPE = ["--no-packed-struct", "--max-funcs", "6", "--max-block-depth", "4", "--max-expr-complexity", "8"]
-# As a user of `lli` compiles: no position-independent tables, no vectors. They stand behind the level, which would switch vectors on again.
-FLAGS = ["-w", "-fno-pie", "-fno-vectorize", "-fno-slp-vectorize", "-I/usr/include/csmith", "-include", "own.h"]
+# As a user of `lli` compiles.
+FLAGS = ["-w", f"@{ROOT}/examples/cflags", "-I/usr/include/csmith", "-include", "own.h"]
 # What csmith's programs call of the C library beside `printf`; `lli` has no such function.
 OWN = """#include <string.h>
 static int own_strcmp(const char *left, const char *right) {
