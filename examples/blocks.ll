@@ -1,6 +1,6 @@
 ; The size in bytes of a block of malloc, for the realloc of examples/libc.c: the greatest offset
 ; that is not past the block's end. A `getelementptr inbounds` past it is poison, and lli's `freeze`
-; makes the null pointer of that. So this asks lli alone; another interpreter may answer otherwise.
+; makes the null pointer of that. So it is for lli alone; another interpreter may answer otherwise.
 define i64 @malloc_usable_size(ptr %block) {
   br label %try
 

@@ -4,7 +4,7 @@
        clang-19 @examples/cflags -O1 -S -emit-llvm -o libc.ll examples/libc.c
        llvm-link program.ll libc.ll examples/blocks.ll -o program.bc
 
-   All are weak: a program that defines one of them itself keeps its own. It stands on the host's
+   All are weak: a program that defines one of them itself keeps its own. It calls the host's
    malloc, free, memcpy, memset, strlen, printf, putchar and abort. Results are those of glibc in
    the C locale, the sign of strcmp and its kin and what rand gives included. */
 #include <stddef.h>

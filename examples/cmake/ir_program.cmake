@@ -1,8 +1,8 @@
 # add_ir_program(NAME [LEVEL -O1] SOURCES FILE ..)
 #
 # Builds NAME.bc in the current binary folder: each C file to a text by clang, and all texts, with
-# .ll files of the list as they are, to one module by llvm-link. What a file includes is asked of
-# clang, so that only what changed is made again. NAME_FILE in the caller's scope is the module.
+# .ll files of the list as they are, to one module by llvm-link. Clang lists what a file
+# includes, so that only what changed is made again. NAME_FILE in the caller's scope is the module.
 find_program(IR_CLANG NAMES clang-19 clang REQUIRED)
 find_program(IR_TOOLS NAMES ir-tools PATHS ${CMAKE_CURRENT_LIST_DIR}/../.. REQUIRED)
 set(IR_FLAGS ${CMAKE_CURRENT_LIST_DIR}/../cflags)

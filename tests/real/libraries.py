@@ -26,7 +26,7 @@ SODIUM = """aead/chacha20poly1305/sodium/* auth/hmacsha256/* core/ed25519/ref10/
 # which files the census takes beside these, and the input of the driver.
 ROWS = {
     "zlib": (".", "adler32 compress crc32 deflate infback inffast inflate inftrees trees uncompr "
-             "zutil", "-I.", {"census": "*"}),
+             "zutil", "-I. -DZ_HAVE_UNISTD_H", {"census": "*"}),
     "bzip2": (".", "blocksort bzlib compress crctable decompress huffman randtable",
               "-I. -DBZ_NO_STDIO", {"census": "bzlib compress bzip2 bzip2recover"}),
     "libsecp256k1": (".", "src/secp256k1 src/precomputed_ecmult src/precomputed_ecmult_gen",

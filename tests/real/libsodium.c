@@ -12,7 +12,7 @@
 #define SIZE 1500
 static unsigned char data[SIZE], room[SIZE + 100], back[SIZE], key[64], seed[32];
 
-/* What the library asks of files that are left out: the keys here are given, not random. */
+/* These are of files that are left out: the keys here are given, not random. */
 void randombytes_buf(void *target, size_t size) {
     memset(target, 0, size);
 }
