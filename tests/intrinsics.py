@@ -1,7 +1,7 @@
 #!/usr/bin/env python3
 """The integer intrinsics over Python's whole numbers, written from the LLVM Language Reference.
 
-    tests/intrinsics.py            writes crates/intrinsic_table/stdin and stdout
+    tests/intrinsics.py            writes the section `intrinsics` of crates/leaf_table
     tests/intrinsics.py --check    tells whether they are what it would write
 
 A line of stdin is `all NAME`: all operands of the width, which is small, poison last, the first operand varying slowest. A row
@@ -12,7 +12,7 @@ import itertools
 import sys
 
 sys.dont_write_bytecode = True
-from stored import store
+from stored import store_section
 
 POISON = None
 UNARY = ["ctpop", "bswap", "bitreverse"]
@@ -170,7 +170,7 @@ def files():
 
 
 def main():
-    store("intrinsic_table", *(text.encode() for text in files()))
+    store_section("leaf_table", "intrinsics", *(text.encode() for text in files()))
 
 
 if __name__ == "__main__":

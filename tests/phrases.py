@@ -1,10 +1,10 @@
 #!/usr/bin/env python3
-"""Writes the stored input and output of crates/syntax_table: texts, and what each comes to.
+"""Writes the section `syntax` of crates/arena_table: texts, and what each comes to.
 
 What a text comes to is written here by hand from the rules of docs/language.md, and from clang's own modules by
 counting their lines; nothing is taken from the program. In a refused text `‹` stands before the first bad place.
 
-    tests/phrases.py            writes crates/syntax_table/stdin and stdout
+    tests/phrases.py            writes the section `syntax` of crates/arena_table
     tests/phrases.py --check    tells whether they are what it would write
 """
 import pathlib
@@ -12,7 +12,7 @@ import re
 import sys
 
 sys.dont_write_bytecode = True
-from stored import store
+from stored import store_section
 
 HERE = pathlib.Path(__file__).resolve().parent
 
@@ -697,7 +697,7 @@ def main():
         clang(path)
     stdin = "\n====\n".join(text for text, _ in CASES).encode()
     stdout = "".join(line + "\n" for _, line in CASES).encode()
-    store("syntax_table", stdin, stdout)
+    store_section("arena_table", "syntax", stdin, stdout)
 
 
 if __name__ == "__main__":

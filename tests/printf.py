@@ -1,7 +1,7 @@
 #!/usr/bin/env python3
 """Patterns of printf and what they write, from Python's whole numbers and the rules of C ("The fprintf function").
 
-    tests/printf.py             writes crates/printf_table/stdin and stdout
+    tests/printf.py             writes the section `printf` of crates/leaf_table
     tests/printf.py --check     tells whether they are what it would write
     tests/printf.py --libc      compares each pattern that C allows with the snprintf of the C library here
 
@@ -13,7 +13,7 @@ import itertools
 import sys
 
 sys.dont_write_bytecode = True
-from stored import store
+from stored import store_section
 
 BITS = {"hh": 8, "h": 16, "": 32, "l": 64, "ll": 64, "j": 64, "z": 64, "t": 64}
 DIGITS = {"d": "d", "i": "d", "u": "d", "x": "x", "X": "X", "o": "o"}
@@ -132,7 +132,7 @@ def main():
     if "--libc" in sys.argv[1:]:
         libc()
     else:
-        store("printf_table", *(text.encode() for text in lines()))
+        store_section("leaf_table", "printf", *(text.encode() for text in lines()))
 
 
 if __name__ == "__main__":

@@ -1,7 +1,7 @@
 #!/usr/bin/env python3
 """The scalar instructions over Python's whole numbers, written from the LLVM Language Reference.
 
-    tests/scalars.py             writes crates/scalar_table/stdin and stdout
+    tests/scalars.py             writes the section `scalars` of crates/leaf_table
     tests/scalars.py --check     tells whether they are what it would write
     tests/scalars.py --module    prints the rows as LLVM constants to fold, to compare with opt outside the gate
 
@@ -12,7 +12,7 @@ import itertools
 import sys
 
 sys.dont_write_bytecode = True
-from stored import store
+from stored import store_section
 
 POISON = "poison"
 
@@ -292,7 +292,7 @@ def main():
     if "--module" in sys.argv[1:]:
         print(module())
     else:
-        store("scalar_table", stdin().encode(), stdout().encode())
+        store_section("leaf_table", "scalars", stdin().encode(), stdout().encode())
 
 
 if __name__ == "__main__":

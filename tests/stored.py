@@ -4,6 +4,7 @@
     tests/stored.py --check    tells whether the rows of tool_table stand script by script, in the order of PARTS
 """
 import pathlib
+import re
 import sys
 
 sys.dont_write_bytecode = True
@@ -34,6 +35,21 @@ def store(crate, stdin, stdout):
         sys.exit(f"crates/{crate}: {others}: not what {sys.argv[0]} writes" if others else 0)
     for path, data in wanted.items():
         path.write_bytes(data)
+
+
+def sections(data):
+    """The rows of each section, by its name: what follows a line `== NAME`, up to the next such line."""
+    pieces = re.split(rb"^== (.*)\n", data, flags=re.M)
+    return {name.decode(): rows for name, rows in zip(pieces[1::2], pieces[2::2])}
+
+
+def store_section(crate, name, stdin, stdout):
+    """The same of the rows of one section, which both files of the crate have."""
+    files = []
+    for file, rows in (("stdin", stdin), ("stdout", stdout)):
+        all_rows = sections((CRATES / crate / file).read_bytes()) | {name: rows}
+        files.append(b"".join(b"== %s\n%s" % (it.encode(), all_rows[it]) for it in all_rows))
+    store(crate, *files)
 
 
 def placed(stored, begins, script, rows):

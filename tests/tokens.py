@@ -1,15 +1,15 @@
 #!/usr/bin/env python3
-"""Writes what crates/token_table prints of its stdin, from the rules of tokens, words and numbers as they are told in
-docs/language.md, in an implementation of its own.
+"""Writes what crates/leaf_table prints of the texts of its section `tokens`, from the rules of tokens, words and numbers
+in docs/language.md, in an implementation of its own.
 
-    tests/tokens.py            writes crates/token_table/stdout
+    tests/tokens.py            writes the section of crates/leaf_table/stdout
     tests/tokens.py --check    tells whether it is what it would write
 """
 import re
 import sys
 
 sys.dont_write_bytecode = True
-from stored import CRATES, store
+from stored import CRATES, sections, store_section
 
 NAME = rb"[-a-zA-Z$._][-a-zA-Z$._0-9]*"
 STRING = rb'"((?:[^"\\]|\\[0-9a-fA-F]{2}|\\\\)*)"'
@@ -201,8 +201,8 @@ def told(stdin):
 
 
 def main():
-    stdin = (CRATES / "token_table" / "stdin").read_bytes()
-    store("token_table", stdin, told(stdin))
+    stdin = sections((CRATES / "leaf_table" / "stdin").read_bytes())["tokens"]
+    store_section("leaf_table", "tokens", stdin, told(stdin))
 
 
 if __name__ == "__main__":

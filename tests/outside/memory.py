@@ -1,14 +1,18 @@
 #!/usr/bin/env python3
-"""A second reading of docs/running.md, 'Blocks', 'Access' and 'Cells': plays the calls of crates/memory_table in Python, and compares.
+"""A second reading of docs/running.md, 'Blocks', 'Access' and 'Cells': plays the calls of the section
+`memory` of crates/leaf_table in Python, and compares.
 
 A block is its bytes, and what of them is poison or a piece of a pointer. It stands outside the gate.
 
-    tests/outside/memory.py         tells where it answers otherwise than crates/memory_table/stdout
+    tests/outside/memory.py         tells where it answers otherwise than crates/leaf_table/stdout
 """
 import pathlib
 import sys
 
-CRATE = pathlib.Path(__file__).resolve().parents[2] / "crates/memory_table"
+sys.dont_write_bytecode = True
+sys.path.insert(0, str(pathlib.Path(__file__).resolve().parents[1]))
+from stored import CRATES, sections
+
 LIMIT = 2**28
 KINDS = ("variable", "constant", "stack", "heap")
 
@@ -50,7 +54,7 @@ def scalar(word):
 
 
 def shown(value):
-    """As memory_table prints it."""
+    """As leaf_table prints it."""
     if isinstance(value, tuple):
         return f"{'-' if value[0] is None else value[0]}:{value[1]}"
     return str(value)
@@ -202,10 +206,13 @@ def answer(memory, line):
     return memory.copy(scalar(rest[0]), scalar(rest[1]), int(rest[2]), rest[3] == "may")
 
 
+def rows(file):
+    return sections((CRATES / "leaf_table" / file).read_bytes())["memory"].decode().splitlines()
+
+
 def main():
     memory, wrong, calls = Memory(), 0, 0
-    told = (CRATE / "stdout").read_text().splitlines()
-    for line, expected in zip((CRATE / "stdin").read_text().splitlines(), told, strict=True):
+    for line, expected in zip(rows("stdin"), rows("stdout"), strict=True):
         if line.startswith("#"):
             memory, here = Memory(), line
         else:

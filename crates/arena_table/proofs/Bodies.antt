@@ -1,5 +1,5 @@
 -- The bodies that the code writes have known ids.
-use Rattle.std.proofs.Common.{◌≡◌, ℕ, ◌+◌, ◌^◌, ◌<◌, List, [], ◌∷◌, length, All, refl, sym, ap, ◌∙◌, subst, arith, lit<}
+use Rattle.std.proofs.Common.{◌≡◌, ℕ, ◌+◌, ◌^◌, ◌<◌, List, [], ◌∷◌, length, All, sym, ap, ◌∙◌, subst, arith, lit<}
 use Rattle.std.specs.Prelude.{⊤, flat_map}
 use Rattle.module_arena.specs.declared.entry.Body.{Body}
 use Rattle.module_arena.specs.declared.entry.Block.{Block}
@@ -10,7 +10,7 @@ use Rattle.module_arena.specs.declared.instruction.Inst.{Inst}
 use Rattle.module_arena.specs.declared.instruction.Ending.TheVariants as ending
 use Rattle.module_arena.specs.Known.{upto, HasOperand, HasValue, KnowsInst, KnowsBlock, KnowsBody}
 use Rattle.module_arena.specs.Mentions.{operands_of, bare_values_of, types_of, blocks_of, end_operands_of, targets_of, block_results}
-use Rattle.arena_table.specs.declared.body.Parts.{Parts}
+use Rattle.arena_table.specs.declared.arena.body.Parts.{Parts}
 use Rattle.arena_table.specs.Bodies.{KnowsParts, at, block, slots, stores, loads, adds, compares, small_blocks, entry_block, test_block, turn_block, step_block, last_block, sum_blocks}
 
 -- the fact of each item, one by one

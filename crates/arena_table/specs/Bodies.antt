@@ -13,7 +13,7 @@ use Rattle.module_arena.specs.declared.instruction.Inst.TheVariants as inst
 use Rattle.module_arena.specs.declared.instruction.Operand.{Operand}
 use Rattle.module_arena.specs.declared.instruction.Value.{Value}
 use Rattle.module_arena.specs.declared.instruction.Value.TheVariants.{Local, Known}
-use Rattle.arena_table.specs.declared.body.Parts.{Parts}
+use Rattle.arena_table.specs.declared.arena.body.Parts.{Parts}
 
 -- the types and the constants are below these counts
 pub record KnowsParts (types constants : ℕ) (p : Parts) : Type 0 where

@@ -1,29 +1,20 @@
-//! What a line gives.
+//! What a call answers.
 use module_arena::{ArenaFault, GlobalId};
-use std::alloc::AllocError;
-use std::fmt;
+use std::alloc::{AllocError, AllocFailed};
 use type_table::TypeFault;
 
-/// What a line gives.
+/// What a call answers.
 #[derive(Drop)]
 pub enum Answer {
     /// What was added or found, by its kind and number.
-    Made(&'static str, u64),
-    /// A word of its own: `done`, `none`, `fits` or `does not fit`.
+    Numbered(&'static str, u64),
+    /// A word: `done`, `none`, `true`, `false`, `fits` or `does not fit`.
     Said(&'static str),
     /// What was asked for, as it is printed.
     Shown(String),
 }
 
-impl Answer {
-    /// An entry, by its kind and number.
-    pub fn entry(id: GlobalId) -> Answer {
-        let (kind, number) = kind_and_number(id);
-        Answer::Made(kind, number)
-    }
-}
-
-/// Why a line gives nothing.
+/// Why a call answers nothing.
 #[derive(Clone, Copy)]
 pub enum Refusal {
     /// The line is no call, names what is not there, or sets what is set.
@@ -52,6 +43,25 @@ impl From<AllocError> for Refusal {
     }
 }
 
+impl<T: Drop> From<AllocFailed<T>> for Refusal {
+    fn from(_failed: AllocFailed<T>) -> Refusal {
+        Refusal::Arena(ArenaFault::Memory)
+    }
+}
+
+/// Whether it is so.
+pub fn is(answer: bool) -> Answer {
+    Answer::Said(if answer { "true" } else { "false" })
+}
+
+/// What was found of that kind, where something was.
+pub fn found(kind: &'static str, number: Option<u64>) -> Answer {
+    match number {
+        Some(number) => Answer::Numbered(kind, number),
+        None => Answer::Said("none"),
+    }
+}
+
 /// The kind and the number of an entry.
 pub fn kind_and_number(id: GlobalId) -> (&'static str, u64) {
     match id {
@@ -61,30 +71,39 @@ pub fn kind_and_number(id: GlobalId) -> (&'static str, u64) {
     }
 }
 
-impl fmt::Display for Answer {
-    fn fmt<W: fmt::Write>(&self, f: &mut fmt::Formatter<W>) -> fmt::Result {
-        match self {
-            Answer::Made(kind, number) => write!(f, "{kind} {number}"),
-            Answer::Said(word) => write!(f, "{word}"),
-            Answer::Shown(text) => write!(f, "{text}"),
-        }
+/// An entry, by its kind and number.
+pub fn entry(id: GlobalId) -> Answer {
+    let (kind, number) = kind_and_number(id);
+    Answer::Numbered(kind, number)
+}
+
+/// Adds an answer: a number without its kind where all that is numbered is a type or a struct.
+pub fn push_answer(text: &mut String, bare: bool, answer: &Answer) -> Result<(), AllocError> {
+    match answer {
+        Answer::Numbered(_, number) if bare => write!(text, "{number}"),
+        Answer::Numbered(kind, number) => write!(text, "{kind} {number}"),
+        Answer::Said(word) => text.push_str(word),
+        Answer::Shown(shown) => text.push_str(shown.as_str()),
     }
 }
 
-impl fmt::Display for Refusal {
-    fn fmt<W: fmt::Write>(&self, f: &mut fmt::Formatter<W>) -> fmt::Result {
-        match *self {
-            Refusal::NoCall => write!(f, "no such call"),
-            Refusal::Types(fault) => write!(f, "refused, {fault}"),
-            Refusal::Arena(ArenaFault::Duplicate(id)) => {
-                let (kind, number) = kind_and_number(id);
-                write!(f, "refused, there is {kind} {number}")
-            }
-            Refusal::Arena(ArenaFault::TooMany { kind, count }) => write!(
-                f,
-                "refused, {count} {kind:?}"
-            ),
-            Refusal::Arena(ArenaFault::Memory) => write!(f, "out of memory"),
+/// Adds a refusal.
+pub fn push_refusal(text: &mut String, bare: bool, refusal: Refusal) -> Result<(), AllocError> {
+    match refusal {
+        Refusal::NoCall => text.push_str("no such call"),
+        Refusal::Types(fault) if bare => write!(text, "{fault}"),
+        Refusal::Types(fault) => write!(text, "refused, {fault}"),
+        Refusal::Arena(fault) => push_arena_fault(text, fault),
+    }
+}
+
+fn push_arena_fault(text: &mut String, fault: ArenaFault) -> Result<(), AllocError> {
+    match fault {
+        ArenaFault::Duplicate(id) => {
+            let (kind, number) = kind_and_number(id);
+            write!(text, "refused, there is {kind} {number}")
         }
+        ArenaFault::TooMany { kind, count } => write!(text, "refused, {count} {kind:?}"),
+        ArenaFault::Memory => text.push_str("out of memory"),
     }
 }

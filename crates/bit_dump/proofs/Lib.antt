@@ -3,3 +3,4 @@ pub mod Sinks
 mod Spilling
 pub mod Telling
 pub mod Told
+pub mod OnWalk

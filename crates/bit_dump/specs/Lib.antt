@@ -5,3 +5,4 @@ pub mod Outline
 pub mod Tally
 pub mod Telling
 pub mod Text
+pub mod Walk

@@ -9,7 +9,7 @@ ghost use Rattle.bit_dump.specs.Telling.{Finished};
 use crate::DumpFault;
 use crate::outline::Outline;
 use crate::pieces::tell;
-use bit_walk::{Walker, judge};
+use crate::walk::{Walker, judge};
 use ir_base::Sink;
 use std::alloc::Global;
 

@@ -13,8 +13,8 @@ use crate::tally::Tally;
 use crate::text::{
     put_block, put_definition, put_end, put_operand, put_record_end, put_record_head,
 };
+use crate::walk::{BlockHead, RecordHead};
 use bit_stream::Abbreviation;
-use bit_walk::{BlockHead, RecordHead};
 use ir_base::{Failed, Sink, write_all};
 use std::alloc::{AllocError, Global};
 use std::marker::Model;

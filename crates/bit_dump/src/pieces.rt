@@ -1,14 +1,14 @@
 //! Telling an entry or a definition, with its operands one by one.
 ghost use Rattle.std.specs.Prelude.{◌≡◌, [], OnOk};
 ghost use Rattle.bit_tree.specs.Pieces.{holds};
-ghost use Rattle.bit_walk.specs.Walker.{piece_of};
+ghost use Rattle.bit_dump.specs.Walk.Walker.{piece_of};
 ghost use Rattle.bit_dump.specs.Dumped.{Counted};
 ghost use Rattle.bit_dump.specs.Outline.{after, after_operands};
 ghost use Rattle.bit_dump.specs.Telling.{Adds};
 
 use crate::DumpFault;
 use crate::outline::Outline;
-use bit_walk::{Event, RecordHead, Walker};
+use crate::walk::{Event, RecordHead, Walker};
 use ir_base::Sink;
 use std::alloc::Global;
 

@@ -1,6 +1,6 @@
 -- The definitions in front of an entry.
 use Rattle.std.proofs.Common.{◌≡◌, ℕ, Bool, Some, None, Ok, Err, refl}
-use Rattle.bits.specs.Cursor.{Cursor, Found}
+use Rattle.bit_stream.specs.Bits.Cursor.{Cursor, Found}
 use Rattle.bit_stream.specs.declared.entry.Entry.{Entry}
 use Rattle.bit_stream.specs.declared.entry.Entry.TheVariants.{Block, EndBlock, Record, End}
 use Rattle.bit_stream.specs.declared.told.LastSeen.{LastSeen}

@@ -1,11 +1,11 @@
 -- Reading goes forward: how many bits are left behind what was read.
 use Rattle.std.proofs.Common.{◌≡◌, ℕ, zero, suc, ◌+◌, ◌-◌, ◌≤◌, Bool, true, false, List, [], ◌∷◌, ◌++◌, length, Ok, Err, IfOk, if◌then◌else◌, refl, arith, inl, inr, length-drop}
-use Rattle.bits.specs.Cursor.{Cursor, Found, ◌>>=◌}
-use Rattle.bits.specs.Reading.{Read, read_at, fixed_at, vbr_at, fixed, vbr}
-use Rattle.bits.specs.declared.fault.BitFault.{BitFault}
+use Rattle.bit_stream.specs.Bits.Cursor.{Cursor, Found, ◌>>=◌}
+use Rattle.bit_stream.specs.Bits.Reading.{Read, read_at, fixed_at, vbr_at, fixed, vbr}
+use Rattle.bit_stream.specs.declared.bits.fault.BitFault.{BitFault}
 use Rattle.std.proofs.lemmas.Bool.{cases_lt}
-use Rattle.bits.proofs.Chunks.{vbr_takes}
-use Rattle.bits.proofs.ReaderSteps.{fixed_short, fixed_whole}
+use Rattle.bit_stream.proofs.OnBits.Chunks.{vbr_takes}
+use Rattle.bit_stream.proofs.OnBits.ReaderSteps.{fixed_short, fixed_whole}
 use Rattle.std.specs.Prelude.{◌==◌}
 use Rattle.bit_stream.specs.declared.abbreviation.ValueSpelling.{ValueSpelling}
 use Rattle.bit_stream.specs.declared.abbreviation.ValueSpelling.TheVariants.{Known, Field, Chunks, Letter}

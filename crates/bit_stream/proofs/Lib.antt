@@ -5,3 +5,4 @@ pub mod Progress
 pub mod ReadBack
 pub mod Spelled
 pub mod DefinitionsInFront
+pub mod OnBits

@@ -2,12 +2,12 @@
 use Rattle.std.proofs.Common.{◌≡◌, ℕ, ◌≤◌, false, List, length, take, drop, Result, Ok, Err, refl, sym, ap, ◌∙◌, arith, inl, inr}
 use Rattle.std.proofs.lemmas.Bool.{cases_lt, lt-ltb, le-ltb}
 use Rattle.std.specs.Prelude.{◌==◌}
-use Rattle.bits.specs.Bits.{value, stream_bits}
-use Rattle.bits.specs.Cursor.{Cursor}
-use Rattle.bits.specs.Reading.{fixed}
-use Rattle.bits.specs.declared.fault.BitFault.{BitFault}
-use Rattle.bits.proofs.BitsLaws.{length-stream_bits}
-use Rattle.bits.proofs.ReaderSteps.{field_short, field_whole}
+use Rattle.bit_stream.specs.Bits.Bits.{value, stream_bits}
+use Rattle.bit_stream.specs.Bits.Cursor.{Cursor}
+use Rattle.bit_stream.specs.Bits.Reading.{fixed}
+use Rattle.bit_stream.specs.declared.bits.fault.BitFault.{BitFault}
+use Rattle.bit_stream.proofs.OnBits.BitsLaws.{length-stream_bits}
+use Rattle.bit_stream.proofs.OnBits.ReaderSteps.{field_short, field_whole}
 use Rattle.bit_stream.specs.Reader.{begins}
 
 abbrev start : List ℕ → Cursor

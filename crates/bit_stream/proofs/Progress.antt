@@ -1,9 +1,9 @@
 -- A definition takes bits, so the definitions in front of an entry end.
 use Rattle.std.proofs.Common.{◌≡◌, ℕ, ◌+◌, ◌<◌, ◌≤◌, Bool, true, false, length, Option, Some, None, Result, Ok, Err, IfOk, if◌then◌else◌, refl, arith}
-use Rattle.bits.specs.Cursor.{Cursor, Found, ◌>>=◌}
-use Rattle.bits.specs.Reading.{fixed, vbr, align}
-use Rattle.bits.specs.declared.fault.BitFault.{BitFault}
-use Rattle.bits.specs.declared.fault.BitFaultKind.TheVariants.{BadAbbreviation, NestedTooDeep}
+use Rattle.bit_stream.specs.Bits.Cursor.{Cursor, Found, ◌>>=◌}
+use Rattle.bit_stream.specs.Bits.Reading.{fixed, vbr, align}
+use Rattle.bit_stream.specs.declared.bits.fault.BitFault.{BitFault}
+use Rattle.bit_stream.specs.declared.bits.fault.BitFaultKind.TheVariants.{BadAbbreviation, NestedTooDeep}
 use Rattle.std.specs.Prelude.{nat_le, ◌==◌, ◌&&◌}
 use Rattle.bit_stream.specs.Answers.{refuse}
 use Rattle.bit_stream.specs.declared.entry.Entry.{Entry}

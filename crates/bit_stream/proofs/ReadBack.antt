@@ -5,11 +5,11 @@ use Rattle.std.specs.List.{AllByRecursion, list_all}
 use Rattle.std.proofs.lemmas.List.{drop_at, append-nil, take-append-drop}
 use Rattle.std.proofs.lemmas.Bool.{cases_lt, ltb-true, leb-true, eqb-true, lt-leb, le-leb, ne_eqb}
 use Rattle.std.proofs.Math.Pow.{pow_mono}
-use Rattle.bits.specs.Bits.{bits_of}
-use Rattle.bits.specs.Writing.{vbr_bits}
-use Rattle.bits.specs.Cursor.{Cursor, Found, ◌>>=◌}
-use Rattle.bits.specs.Reading.{fixed, vbr}
-use Rattle.bits.proofs.RoundTrip.{fixed_back, vbr_back}
+use Rattle.bit_stream.specs.Bits.Bits.{bits_of}
+use Rattle.bit_stream.specs.Bits.Writing.{vbr_bits}
+use Rattle.bit_stream.specs.Bits.Cursor.{Cursor, Found, ◌>>=◌}
+use Rattle.bit_stream.specs.Bits.Reading.{fixed, vbr}
+use Rattle.bit_stream.proofs.OnBits.RoundTrip.{fixed_back, vbr_back}
 use Rattle.bit_stream.specs.declared.entry.Entry.TheVariants.{Record}
 use Rattle.bit_stream.specs.declared.abbreviation.ValueSpelling.{ValueSpelling}
 use Rattle.bit_stream.specs.declared.abbreviation.ValueSpelling.TheVariants.{Known, Field, Chunks, Letter}

@@ -1,7 +1,7 @@
 -- For `defined_abbreviation`, and how the code reads: what a call that may want memory answers, beside what reading finds.
 use Rattle.std.specs.Prelude.{◌≡◌, ℕ, Result, Ok, Err}
-use Rattle.bits.specs.Cursor.{Cursor, Found}
-use Rattle.bits.specs.declared.fault.BitFaultKind.TheVariants.{BadAbbreviation}
+use Rattle.bit_stream.specs.Bits.Cursor.{Cursor, Found}
+use Rattle.bit_stream.specs.declared.bits.fault.BitFaultKind.TheVariants.{BadAbbreviation}
 use Rattle.bit_stream.specs.declared.fault.StreamFault.{StreamFault}
 use Rattle.bit_stream.specs.declared.fault.StreamFault.TheVariants.{Bit, Memory}
 

@@ -1,9 +1,9 @@
 -- For `next_entry` of `BitReader`: an entry of a stream (LLVM Bitcode File Format, "Abbreviation IDs" and "Blocks").
 use Rattle.std.specs.Prelude.{◌≡◌, ℕ, ◌+◌, ◌-◌, ◌/◌, Bool, false, List, [], ◌∷◌, ◌++◌, length, take, Option, Some, None, Result, Ok, Err, if◌then◌else◌, ◌==◌, ◌&&◌, ◌||◌, nat_lt, nat_le, slice_index_or}
-use Rattle.bits.specs.Cursor.{Cursor, Found, ◌>>=◌}
-use Rattle.bits.specs.Reading.{fixed, vbr, align}
-use Rattle.bits.specs.declared.fault.BitFault.{BitFault}
-use Rattle.bits.specs.declared.fault.BitFaultKind.TheVariants.{BadAbbreviation, BadBlockLength, NestedTooDeep}
+use Rattle.bit_stream.specs.Bits.Cursor.{Cursor, Found, ◌>>=◌}
+use Rattle.bit_stream.specs.Bits.Reading.{fixed, vbr, align}
+use Rattle.bit_stream.specs.declared.bits.fault.BitFault.{BitFault}
+use Rattle.bit_stream.specs.declared.bits.fault.BitFaultKind.TheVariants.{BadAbbreviation, BadBlockLength, NestedTooDeep}
 use Rattle.bit_stream.specs.declared.entry.Entry.{Entry}
 use Rattle.bit_stream.specs.declared.entry.Entry.TheVariants.{Block, EndBlock, Record, End}
 use Rattle.bit_stream.specs.declared.item.TheConstants.{ID_LIMIT, MAX_OPEN}

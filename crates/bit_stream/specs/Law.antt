@@ -1,8 +1,8 @@
 -- For `abbreviated_is_read_back` and `record_is_read_back`: what a writer wrote is read as what was written.
 use Rattle.std.specs.Prelude.{◌≡◌, ℕ, ◌+◌, ◌<◌, ◌≤◌, ◌^◌, Bool, true, false, List, [], ◌++◌, length, Some, Ok, nat_le}
 use Rattle.std.specs.List.{AllByRecursion, list_all}
-use Rattle.bits.specs.Bits.{bits_of}
-use Rattle.bits.specs.Cursor.{Cursor, Found}
+use Rattle.bit_stream.specs.Bits.Bits.{bits_of}
+use Rattle.bit_stream.specs.Bits.Cursor.{Cursor, Found}
 use Rattle.bit_stream.specs.declared.entry.Entry.TheVariants.{Record}
 use Rattle.bit_stream.specs.declared.abbreviation.ValueSpelling.{ValueSpelling}
 use Rattle.bit_stream.specs.declared.abbreviation.ValueSpelling.TheVariants.{Known, Field, Chunks, Letter}

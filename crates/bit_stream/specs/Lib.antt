@@ -8,3 +8,4 @@ pub mod Reader
 pub mod Spelling
 pub mod Writer
 pub mod Law
+pub mod Bits

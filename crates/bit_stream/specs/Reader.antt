@@ -1,9 +1,9 @@
 -- For `next_entry`, `fixed`, `vbr` and the other calls of `BitReader`: a reader of a stream, and what its calls answer.
 use Rattle.std.specs.Prelude.{◌≡◌, ℕ, Bool, false, List, [], length, take, drop, Option, Some, None, Result, Ok, Err, if◌then◌else◌, ◌==◌, ◌&&◌, not, nat_lt}
-use Rattle.bits.specs.Bits.{value, stream_bits}
-use Rattle.bits.specs.Cursor.{Cursor, Found}
-use Rattle.bits.specs.declared.fault.BitFault.{BitFault}
-use Rattle.bits.specs.declared.fault.BitFaultKind.TheVariants.{BadMagic}
+use Rattle.bit_stream.specs.Bits.Bits.{value, stream_bits}
+use Rattle.bit_stream.specs.Bits.Cursor.{Cursor, Found}
+use Rattle.bit_stream.specs.declared.bits.fault.BitFault.{BitFault}
+use Rattle.bit_stream.specs.declared.bits.fault.BitFaultKind.TheVariants.{BadMagic}
 use Rattle.bit_stream.specs.declared.entry.Entry.{Entry}
 use Rattle.bit_stream.specs.declared.fault.StreamFault.{StreamFault}
 use Rattle.bit_stream.specs.declared.fault.StreamFault.TheVariants.{Bit, Memory}

@@ -2,8 +2,8 @@
 -- Records").
 use Rattle.std.specs.Prelude.{ℕ, zero, suc, Bool, List, [], ◌∷◌, ◌++◌, length, Ok, if◌then◌else◌, ◌==◌, ◌&&◌, nat_le, slice_index}
 use Rattle.std.specs.Prelude.{codes}
-use Rattle.bits.specs.Cursor.{Cursor, Found, ◌>>=◌}
-use Rattle.bits.specs.Reading.{fixed, vbr, blob}
+use Rattle.bit_stream.specs.Bits.Cursor.{Cursor, Found, ◌>>=◌}
+use Rattle.bit_stream.specs.Bits.Reading.{fixed, vbr, blob}
 use Rattle.bit_stream.specs.declared.abbreviation.ValueSpelling.{ValueSpelling}
 use Rattle.bit_stream.specs.declared.abbreviation.ValueSpelling.TheVariants.{Known, Field, Chunks, Letter}
 use Rattle.bit_stream.specs.declared.abbreviation.Tail.{Tail}

@@ -2,8 +2,8 @@
 -- Format, "Abbreviation IDs", "DEFINE_ABBREV Encoding", "Data Records").
 use Rattle.std.specs.Prelude.{ℕ, suc, ◌+◌, ◌-◌, ◌^◌, Bool, true, false, List, [], ◌∷◌, ◌++◌, length, take, drop, Option, Some, None, option_map, if◌then◌else◌, ◌==◌, ◌&&◌, ◌||◌, nat_lt, nat_le}
 use Rattle.std.specs.List.{flat_map, list_all}
-use Rattle.bits.specs.Bits.{bits_of}
-use Rattle.bits.specs.Writing.{vbr_bits, pad_bits}
+use Rattle.bit_stream.specs.Bits.Bits.{bits_of}
+use Rattle.bit_stream.specs.Bits.Writing.{vbr_bits, pad_bits}
 use Rattle.bit_stream.specs.declared.abbreviation.TheConstants.{MOST_OPERANDS, WIDEST_CHUNK, WIDEST_FIELD}
 use Rattle.bit_stream.specs.declared.abbreviation.AbbrevOp.{AbbrevOp}
 use Rattle.bit_stream.specs.declared.abbreviation.AbbrevOp.TheVariants.{Literal, Fixed, Vbr, Array, Char6, Blob}

@@ -1,7 +1,7 @@
 -- For `enter`, `put_record`, `end_block` and the other calls of `BitWriter`: a writer of a stream, and what its calls
 -- add.
 use Rattle.std.specs.Prelude.{◌≡◌, ℕ, ◌+◌, ◌-◌, ◌/◌, ◌%◌, ◌^◌, Bool, true, false, List, [], ◌∷◌, ◌++◌, length, take, Option, Some, None, Result, Ok, Err, IsErr, if◌then◌else◌, ◌==◌, ◌&&◌, slice_index_or}
-use Rattle.bits.specs.Bits.{bits_of}
+use Rattle.bit_stream.specs.Bits.Bits.{bits_of}
 use Rattle.bit_stream.specs.declared.abbreviation.AbbrevOp.{AbbrevOp}
 use Rattle.bit_stream.specs.declared.reader.TheConstants.{MAGIC}
 use Rattle.bit_stream.specs.Abbreviation.{AdmittedAbbreviation}

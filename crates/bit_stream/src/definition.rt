@@ -1,6 +1,6 @@
 //! The definition of an abbreviation (LLVM Bitcode File Format, "DEFINE_ABBREV Encoding").
 ghost use Rattle.std.specs.Prelude.{◌≡◌, ℕ, ◌≤◌};
-ghost use Rattle.bits.specs.Cursor.{found_at};
+ghost use Rattle.bit_stream.specs.Bits.Cursor.{found_at};
 ghost use Rattle.bit_stream.specs.Answers.{Ran};
 ghost use Rattle.bit_stream.specs.Definition.{field_width, chunk_width, encoding, scalar_by, literal, first_operand, element, part_by, part, parts, defined_abbreviation};
 
@@ -9,8 +9,8 @@ use crate::abbreviation::{
     AdmittedAbbreviation, ChunkWidth, FieldWidth, MOST_OPERANDS, Tail, ValueSpelling, WIDEST_CHUNK,
     WIDEST_FIELD,
 };
+use crate::bits::{BitCursor, BitFault};
 use crate::fault::bad_abbreviation;
-use bits::{BitCursor, BitFault};
 use std::alloc::Global;
 
 /// How an operand is encoded, in the order of the encodings' numbers from 1.

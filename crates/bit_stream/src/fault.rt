@@ -1,9 +1,9 @@
 //! Why reading stops.
 ghost use Rattle.std.specs.Prelude.{◌≡◌};
-ghost use Rattle.bits.specs.declared.fault.BitFaultKind.TheVariants.{BadAbbreviation, BadBlockLength, NestedTooDeep};
+ghost use Rattle.bit_stream.specs.declared.bits.fault.BitFaultKind.TheVariants.{BadAbbreviation, BadBlockLength, NestedTooDeep};
 ghost use Rattle.bit_stream.specs.declared.fault.StreamFault.TheVariants.{Bit, Memory};
 
-use bits::{BitFault, BitFaultKind};
+use crate::bits::{BitFault, BitFaultKind};
 use std::alloc::{AllocError, AllocFailed};
 use thiserror::Error;
 

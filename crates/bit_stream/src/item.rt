@@ -10,12 +10,12 @@ ghost use Rattle.bit_stream.specs.declared.entry.Entry.TheVariants.{Block, EndBl
 
 use crate::StreamFault;
 use crate::abbreviation::{AbbreviationList, AdmittedAbbreviation, ChunkWidth, WIDEST_CHUNK};
+use crate::bits::{BitCursor, BitFault};
 use crate::definition::defined_abbreviation;
 use crate::entry::Entry;
 use crate::fault::{bad_abbreviation, bad_block_length, nested_too_deep};
 use crate::record::{RecordOpening, abbreviated, unabbreviated};
 use crate::scope::Scope;
-use bits::{BitCursor, BitFault};
 use std::alloc::Global;
 
 /// How many blocks may be open at once.

@@ -1,8 +1,13 @@
 //! The container of LLVM bitcode (LLVM Bitcode File Format): blocks, abbreviations and records, both ways.
 //!
-//! It stands on `bits` and gives no meaning to a record. Its promise: the reader gives the entries of the bits
+//! It stands on `bit_stream::bits` and gives no meaning to a record. Its promise: the reader gives the entries of the bits
 //! in order, or the first field that is refused with its bit, from then on; each call of the writer adds the
 //! bits of its entry. Definitions: `specs/Entry` and `specs/Reader`, `specs/Spelling` and `specs/Writer`.
+//!
+//! Its modules:
+//!
+//! - `bits`: Bits in bytes, least significant first: fields, numbers in chunks, alignment and
+//!   blobs, both ways.
 //!
 //! ```
 //! let mut writer = BitWriter::new(alloc)?;
@@ -21,6 +26,7 @@
 
 mod abbreviation;
 mod admitted;
+pub mod bits;
 mod definition;
 mod entry;
 mod fault;
@@ -33,11 +39,11 @@ mod spelling;
 mod told;
 mod writer;
 
+pub use crate::bits::{BitFault, BitFaultKind};
 pub use abbreviation::{
     AbbrevOp, Abbreviation, AbbreviationList, AdmittedAbbreviation, ChunkWidth, MOST_OPERANDS,
     Tail, ValueSpelling, WIDEST_CHUNK, WIDEST_FIELD,
 };
-pub use bits::{BitFault, BitFaultKind};
 pub use definition::defined_abbreviation;
 pub use entry::Entry;
 pub use fault::{StreamFault, bad_abbreviation, bad_block_length, nested_too_deep};

@@ -1,6 +1,6 @@
 //! The reader of a stream.
 ghost use Rattle.std.specs.Prelude.{◌≡◌, ℕ, ◌+◌, ◌<◌, ◌≤◌, ◌^◌, length, Some, None, ◌≢◌, OnErr};
-ghost use Rattle.bits.specs.Reading.{fixed, vbr};
+ghost use Rattle.bit_stream.specs.Bits.Reading.{fixed, vbr};
 ghost use Rattle.bit_stream.specs.Reader.{StreamReader, opened, Numbered, Entered, Reached, Stopped};
 ghost use Rattle.bit_stream.specs.Writer.{in_force};
 ghost use Rattle.bit_stream.specs.declared.abbreviation.TheConstants.{WIDEST_CHUNK, WIDEST_FIELD};
@@ -9,11 +9,11 @@ ghost use Rattle.bit_stream.specs.declared.fault.StreamFault.TheVariants.{Memory
 
 use crate::StreamFault;
 use crate::abbreviation::AbbreviationList;
+use crate::bits::{BitCursor, BitFault, BitFaultKind};
 use crate::entry::Entry;
 use crate::item::next_item;
 use crate::scope::Scope;
 use crate::told::LastSeen;
-use bits::{BitCursor, BitFault, BitFaultKind};
 use std::alloc::Global;
 use std::marker::Model;
 

@@ -1,6 +1,6 @@
 //! The values of a record (LLVM Bitcode File Format, "Data Records").
 ghost use Rattle.std.specs.Prelude.{◌≡◌, ℕ, ◌<◌, ◌^◌, [], ◌&&◌, ◌==◌, slice_index, false, IfOk};
-ghost use Rattle.bits.specs.Cursor.{found_at};
+ghost use Rattle.bit_stream.specs.Bits.Cursor.{found_at};
 ghost use Rattle.bit_stream.specs.Abbreviation.{is_blob};
 ghost use Rattle.bit_stream.specs.Answers.{Ran};
 ghost use Rattle.bit_stream.specs.Record.{letters, value_by, code_by, operand, elements, each, counted, tail_by, ReadRecord, names_block, unabbreviated, abbreviated};
@@ -8,9 +8,9 @@ ghost use Rattle.bit_stream.specs.declared.abbreviation.ValueSpelling.TheVariant
 
 use crate::StreamFault;
 use crate::abbreviation::{AdmittedAbbreviation, ChunkWidth, Tail, ValueSpelling};
+use crate::bits::{BitCursor, BitFault};
 use crate::fault::bad_abbreviation;
 use crate::item::ID_LIMIT;
-use bits::{BitCursor, BitFault};
 
 /// The 64 characters of names, in the order of their numbers.
 const LETTERS: [u8; 64] = *b"abcdefghijklmnopqrstuvwxyzABCDEFGHIJKLMNOPQRSTUVWXYZ0123456789._";

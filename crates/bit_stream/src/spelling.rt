@@ -1,6 +1,6 @@
 //! How values and definitions are spelled.
 ghost use Rattle.std.specs.Prelude.{◌≡◌, ℕ, ◌<◌, ◌≤◌, ◌+◌, ◌++◌, true, List, length, OnOk, IfOk, option_map, IsSome, Some, None};
-ghost use Rattle.bits.specs.Bits.{bits_of};
+ghost use Rattle.bit_stream.specs.Bits.Bits.{bits_of};
 ghost use Rattle.std.specs.List.{flat_map};
 ghost use Rattle.bit_stream.specs.Spelling.{chunks, operand_bits, definition_bits, scalar_of, element_scalar, rest_of, abbreviation_for, is_letter, letter_number, fits, value_bits, all_fit, all_bits, record_bits, each_fit, each_bits, tail_fits, with_tail, record_fits, with_record};
 
@@ -9,7 +9,7 @@ use crate::abbreviation::{
     AdmittedAbbreviation, ChunkWidth, FieldWidth, MOST_OPERANDS, Tail, ValueSpelling, WIDEST_CHUNK,
     WIDEST_FIELD,
 };
-use bits::BitSink;
+use crate::bits::BitSink;
 use std::alloc::{AllocError, Global};
 
 /// The flag of an operand that is no literal, and its encoding.

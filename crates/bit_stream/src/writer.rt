@@ -1,7 +1,7 @@
 //! The writer of a stream.
 ghost use Rattle.std.specs.Prelude.{◌≡◌, ℕ, ◌+◌, ◌-◌, ◌<◌, ◌≤◌, ◌^◌, ◌++◌, ◌≢◌, true, false, length, [], IfOk, OnOk, IsSome, Some, List};
-ghost use Rattle.bits.specs.Bits.{bits_of, stream_bits};
-ghost use Rattle.bits.specs.Writing.{vbr_bits, byte_pad};
+ghost use Rattle.bit_stream.specs.Bits.Bits.{bits_of, stream_bits};
+ghost use Rattle.bit_stream.specs.Bits.Writing.{vbr_bits, byte_pad};
 ghost use Rattle.bit_stream.specs.declared.abbreviation.TheConstants.{WIDEST_CHUNK, WIDEST_FIELD};
 ghost use Rattle.bit_stream.specs.declared.item.TheConstants.{ID_LIMIT};
 ghost use Rattle.bit_stream.specs.Scope.{abbreviation_of};
@@ -10,10 +10,10 @@ ghost use Rattle.bit_stream.specs.Writer.{begun, write, enter, end_block, define
 
 use crate::Abbreviation;
 use crate::abbreviation::{AdmittedAbbreviation, ChunkWidth};
+use crate::bits::{BitSink, WholeWords};
 use crate::reader::MAGIC;
 use crate::scope::Scope;
 use crate::spelling::{abbreviation_for, put_abbreviated, put_definition, put_record};
-use bits::{BitSink, WholeWords};
 use ir_base::Text;
 use std::alloc::{AllocError, Global};
 use std::marker::Model;

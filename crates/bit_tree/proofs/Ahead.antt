@@ -1,7 +1,7 @@
 -- Reading goes forward over records, alignment and blobs too.
 use Rattle.std.proofs.Common.{ℕ, zero, suc, ◌+◌, ◌*◌, Bool, List, [], ◌∷◌, drop, Ok, arith, length-drop}
-use Rattle.bits.specs.Cursor.{Cursor, Found}
-use Rattle.bits.specs.Reading.{fixed, vbr, gap, align, bytes, bytes_of, blob}
+use Rattle.bit_stream.specs.Bits.Cursor.{Cursor, Found}
+use Rattle.bit_stream.specs.Bits.Reading.{fixed, vbr, gap, align, bytes, bytes_of, blob}
 use Rattle.bit_stream.specs.declared.abbreviation.ValueSpelling.{ValueSpelling}
 use Rattle.bit_stream.specs.declared.abbreviation.ValueSpelling.TheVariants.{Known, Field, Chunks, Letter}
 use Rattle.bit_stream.specs.declared.abbreviation.Tail.{Tail}

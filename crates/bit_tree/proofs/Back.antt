@@ -3,9 +3,9 @@ use Rattle.std.proofs.Common.{◌≡◌, ℕ, ◌+◌, ◌-◌, ◌≤◌, ◌^�
 use Rattle.std.specs.Prelude.{slice_index_or}
 use Rattle.std.proofs.lemmas.Bool.{le-ltb, eq-eqb}
 use Rattle.std.proofs.lemmas.List.{take_at, drop_at, get_or_at}
-use Rattle.bits.specs.Bits.{value, bits_of, stream_bits}
-use Rattle.bits.specs.Writing.{pad_bits, byte_pad}
-use Rattle.bits.proofs.BitsLaws.{length-bits_of, value-bits_of, length-stream_bits}
+use Rattle.bit_stream.specs.Bits.Bits.{value, bits_of, stream_bits}
+use Rattle.bit_stream.specs.Bits.Writing.{pad_bits, byte_pad}
+use Rattle.bit_stream.proofs.OnBits.BitsLaws.{length-bits_of, value-bits_of, length-stream_bits}
 use Rattle.bit_stream.specs.Scope.{Scope, top_level}
 use Rattle.bit_stream.specs.Entry.{is_top, block_left}
 use Rattle.bit_stream.specs.Reader.{begins}

@@ -4,11 +4,11 @@ use Rattle.std.specs.Prelude.{nat_lt, slice_index_or}
 use Rattle.std.proofs.lemmas.Bool.{lt-leb, ne_eqb, eq-eqb, le-ltb}
 use Rattle.std.proofs.lemmas.List.{append-nil, take_at, get_or_at}
 use Rattle.std.proofs.Math.Nat.{mod-eq_of_lt}
-use Rattle.bits.specs.Bits.{bits_of}
-use Rattle.bits.specs.Writing.{pad_bits}
-use Rattle.bits.specs.Cursor.{Cursor}
-use Rattle.bits.specs.Reading.{fixed}
-use Rattle.bits.proofs.BitsLaws.{length-bits_of}
+use Rattle.bit_stream.specs.Bits.Bits.{bits_of}
+use Rattle.bit_stream.specs.Bits.Writing.{pad_bits}
+use Rattle.bit_stream.specs.Bits.Cursor.{Cursor}
+use Rattle.bit_stream.specs.Bits.Reading.{fixed}
+use Rattle.bit_stream.proofs.OnBits.BitsLaws.{length-bits_of}
 use Rattle.bit_stream.specs.declared.entry.Entry.TheVariants.{Block, EndBlock}
 use Rattle.bit_stream.specs.Scope.{Scope, abbreviation_of}
 use Rattle.bit_stream.specs.Entry.{StreamItem, item, plain, is_top, is_blockinfo, entered, block_left, inside, enter_block, words_since, end_block as read_end}

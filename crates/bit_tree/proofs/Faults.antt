@@ -2,11 +2,11 @@
 use Rattle.std.proofs.Common.{◌≡◌, ℕ, zero, suc, ◌+◌, ◌-◌, ◌<◌, ◌≤◌, Bool, true, false, List, [], ◌∷◌, length, Option, Some, None, Ok, Err, refl, sym, ap, ◌∙◌, arith, inl, inr, length-drop}
 use Rattle.std.specs.Prelude.{◌⊎◌}
 use Rattle.std.proofs.lemmas.Bool.{eqb-true, ltb-false, cases_Bool, and_parts, not-true}
-use Rattle.bits.specs.Bits.{stream_bits}
-use Rattle.bits.specs.Cursor.{Cursor, Found}
-use Rattle.bits.specs.declared.fault.BitFault.{BitFault}
-use Rattle.bits.specs.declared.fault.BitFaultKind.TheVariants.{BadMagic}
-use Rattle.bits.proofs.BitsLaws.{length-stream_bits}
+use Rattle.bit_stream.specs.Bits.Bits.{stream_bits}
+use Rattle.bit_stream.specs.Bits.Cursor.{Cursor, Found}
+use Rattle.bit_stream.specs.declared.bits.fault.BitFault.{BitFault}
+use Rattle.bit_stream.specs.declared.bits.fault.BitFaultKind.TheVariants.{BadMagic}
+use Rattle.bit_stream.proofs.OnBits.BitsLaws.{length-stream_bits}
 use Rattle.bit_stream.specs.declared.entry.Entry.{Entry}
 use Rattle.bit_stream.specs.declared.entry.Entry.TheVariants.{Block, EndBlock, Record, End}
 use Rattle.bit_stream.specs.Scope.{Scope, top_level}

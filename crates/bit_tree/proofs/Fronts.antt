@@ -1,13 +1,13 @@
 -- What was passed on the way is the front of what the whole stream is.
-use Rattle.std.proofs.Common.{◌≡◌, ℕ, Bool, true, false, List, [], ◌∷◌, ◌++◌, Option, Some, None, Ok, Err, refl, sym, ap, ◌∙◌}
-use Rattle.bits.specs.Cursor.{Cursor, Found}
+use Rattle.std.proofs.Common.{◌≡◌, ℕ, true, List, [], ◌∷◌, ◌++◌, Option, Some, None, Ok, Err, refl, sym, ap, ◌∙◌}
+use Rattle.bit_stream.specs.Bits.Cursor.{Cursor, Found}
 use Rattle.bit_stream.specs.declared.entry.Entry.{Entry}
 use Rattle.bit_stream.specs.declared.entry.Entry.TheVariants.{Block, EndBlock, Record, End}
 use Rattle.bit_stream.specs.Abbreviation.{AdmittedAbbreviation}
 use Rattle.bit_stream.specs.Scope.{Scope}
 use Rattle.bit_stream.specs.Reader.{StreamReader}
-use Rattle.bit_stream.specs.Entry.{StreamItem, item, is_top, plain, id_at, has_blob_by, defined_at}
-use Rattle.bit_tree.specs.Stream.{StreamTree, Stream, Stands, next_id, is_end}
+use Rattle.bit_stream.specs.Entry.{StreamItem, is_top, plain, id_at, has_blob_by, defined_at}
+use Rattle.bit_tree.specs.Stream.{StreamTree, Stream, next_id}
 use Rattle.bit_tree.specs.Pieces.{Piece, begun, ended, defines, holds, flat}
 use Rattle.bit_tree.proofs.Path.{Step, Path, stop, step, from_tree, entry_of, stands, no_end}
 use Rattle.bit_tree.proofs.Faults.{end_stands}

@@ -4,10 +4,10 @@ use Rattle.std.specs.Prelude.{nat_lt, nat_le, slice_index_or, ◌^◌, ◌⊎◌
 use Rattle.std.specs.List.{AllByRecursion}
 use Rattle.std.proofs.lemmas.Bool.{ltb-false, eqb-true, eqb-false, cases_Bool, and_parts}
 use Rattle.std.proofs.lemmas.List.{length-take-le}
-use Rattle.bits.specs.Cursor.{Cursor, Found, ◌>>=◌}
-use Rattle.bits.specs.Reading.{fixed, vbr, align}
-use Rattle.bits.specs.declared.fault.BitFault.{BitFault}
-use Rattle.bits.specs.declared.fault.BitFaultKind.TheVariants.{BadBlockLength, NestedTooDeep}
+use Rattle.bit_stream.specs.Bits.Cursor.{Cursor, Found, ◌>>=◌}
+use Rattle.bit_stream.specs.Bits.Reading.{fixed, vbr, align}
+use Rattle.bit_stream.specs.declared.bits.fault.BitFault.{BitFault}
+use Rattle.bit_stream.specs.declared.bits.fault.BitFaultKind.TheVariants.{BadBlockLength, NestedTooDeep}
 use Rattle.bit_stream.specs.Answers.{refuse}
 use Rattle.bit_stream.specs.declared.entry.Entry.{Entry}
 use Rattle.bit_stream.specs.declared.entry.Entry.TheVariants.{Block, EndBlock, Record, End}

@@ -15,3 +15,5 @@ pub mod Sound
 pub mod Step
 pub mod Values
 pub mod Walking
+pub mod OnStarts
+pub mod OnSizes

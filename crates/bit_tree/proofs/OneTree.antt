@@ -1,6 +1,6 @@
 -- A stream has one tree.
 use Rattle.std.proofs.Common.{◌≡◌, ℕ, Bool, true, false, List, Option, Some, None, Ok, refl, sym, ap, ◌∙◌}
-use Rattle.bits.specs.Cursor.{Cursor}
+use Rattle.bit_stream.specs.Bits.Cursor.{Cursor}
 use Rattle.bit_stream.specs.declared.entry.Entry.{Entry}
 use Rattle.bit_stream.specs.declared.entry.Entry.TheVariants.{Block, EndBlock, Record, End}
 use Rattle.bit_stream.specs.Abbreviation.{AdmittedAbbreviation}

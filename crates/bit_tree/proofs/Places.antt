@@ -3,12 +3,12 @@ use Rattle.std.proofs.Common.{◌≡◌, ℕ, ◌+◌, ◌-◌, ◌*◌, ◌%◌
 use Rattle.std.proofs.lemmas.List.{take_at, drop_at, length-replicate}
 use Rattle.std.proofs.Math.Nat.{mod-eq_of_lt}
 use Rattle.std.proofs.lemmas.Bool.{ltb-true, and_parts}
-use Rattle.bits.specs.Bits.{bits_of}
-use Rattle.bits.specs.Writing.{pad_bits}
-use Rattle.bits.specs.Cursor.{Cursor, Found, ◌>>=◌}
-use Rattle.bits.specs.Reading.{vbr, gap, align, bytes, bytes_of, blob}
-use Rattle.bits.proofs.BitsLaws.{length-bits_of, value-bits_of}
-use Rattle.bits.proofs.ReaderSteps.{align_whole, bytes_whole}
+use Rattle.bit_stream.specs.Bits.Bits.{bits_of}
+use Rattle.bit_stream.specs.Bits.Writing.{pad_bits}
+use Rattle.bit_stream.specs.Bits.Cursor.{Cursor, Found, ◌>>=◌}
+use Rattle.bit_stream.specs.Bits.Reading.{vbr, gap, align, bytes, bytes_of, blob}
+use Rattle.bit_stream.proofs.OnBits.BitsLaws.{length-bits_of, value-bits_of}
+use Rattle.bit_stream.proofs.OnBits.ReaderSteps.{align_whole, bytes_whole}
 use Rattle.bit_stream.specs.declared.abbreviation.ValueSpelling.TheVariants.{Field}
 use Rattle.bit_stream.specs.Spelling.{chunks, value_bits, all_fit, all_bits}
 use Rattle.bit_stream.specs.Law.{ReadsAs}

@@ -2,9 +2,9 @@
 use Rattle.std.proofs.Common.{◌≡◌, ℕ, ◌+◌, ◌-◌, ◌<◌, Bool, true, false, List, [], ◌∷◌, ◌++◌, length, Option, Some, None, Ok, Err, refl, ap, subst, ◌∙◌, arith, inl, inr}
 use Rattle.std.specs.Prelude.{◌⊎◌}
 use Rattle.std.proofs.lemmas.List.{append-nil}
-use Rattle.bits.specs.Bits.{stream_bits}
-use Rattle.bits.specs.Cursor.{Cursor, Found}
-use Rattle.bits.specs.declared.fault.BitFault.{BitFault}
+use Rattle.bit_stream.specs.Bits.Bits.{stream_bits}
+use Rattle.bit_stream.specs.Bits.Cursor.{Cursor, Found}
+use Rattle.bit_stream.specs.declared.bits.fault.BitFault.{BitFault}
 use Rattle.bit_stream.specs.declared.entry.Entry.{Entry}
 use Rattle.bit_stream.specs.declared.entry.Entry.TheVariants.{Block, EndBlock, Record, End}
 use Rattle.bit_stream.specs.Scope.{Scope, top_level}

@@ -3,9 +3,9 @@ use Rattle.std.proofs.Common.{◌≡◌, ℕ, ◌+◌, ◌<◌, ◌≤◌, ◌^�
 use Rattle.std.specs.Prelude.{IsSome}
 use Rattle.std.proofs.lemmas.Bool.{ne_eqb, le-leb}
 use Rattle.std.proofs.Math.Pow.{pow_mono}
-use Rattle.bits.specs.Bits.{bits_of}
-use Rattle.bits.specs.Cursor.{Cursor}
-use Rattle.bits.specs.Reading.{fixed}
+use Rattle.bit_stream.specs.Bits.Bits.{bits_of}
+use Rattle.bit_stream.specs.Bits.Cursor.{Cursor}
+use Rattle.bit_stream.specs.Bits.Reading.{fixed}
 use Rattle.bit_stream.specs.declared.entry.Entry.TheVariants.{Record}
 use Rattle.bit_stream.specs.declared.abbreviation.AbbrevOp.{AbbrevOp}
 use Rattle.bit_stream.specs.declared.abbreviation.Tail.TheVariants.{NoTail}

@@ -4,8 +4,8 @@ use Rattle.std.specs.Prelude.{nat_le}
 use Rattle.std.specs.List.{AllByRecursion, list_all}
 use Rattle.std.proofs.lemmas.List.{append-nil, take-append-drop}
 use Rattle.std.proofs.lemmas.Bool.{eqb-true, lt-leb, ne_eqb, and_parts}
-use Rattle.bits.specs.Cursor.{◌>>=◌}
-use Rattle.bits.specs.Reading.{vbr}
+use Rattle.bit_stream.specs.Bits.Cursor.{◌>>=◌}
+use Rattle.bit_stream.specs.Bits.Reading.{vbr}
 use Rattle.bit_stream.specs.declared.abbreviation.ValueSpelling.{ValueSpelling}
 use Rattle.bit_stream.specs.declared.abbreviation.ValueSpelling.TheVariants.{Field, Chunks}
 use Rattle.bit_stream.specs.declared.abbreviation.Tail.{Tail}
@@ -15,7 +15,7 @@ use Rattle.bit_stream.specs.Record.{code_by, operand, elements, each, counted, t
 use Rattle.bit_stream.specs.Spelling.{chunks, fits, value_bits, all_fit, all_bits, record_bits, each_fit, each_bits, tail_fits, with_tail, record_fits, with_record}
 use Rattle.bit_stream.specs.Law.{ReadsAs, AreOperands, is_sound}
 use Rattle.bit_stream.proofs.ReadBack.{vbr_reads, value_reads, then_reads, all_take, all_drop, no_items}
-use Rattle.bits.specs.Writing.{pad_bits}
+use Rattle.bit_stream.specs.Bits.Writing.{pad_bits}
 use Rattle.bit_stream.proofs.Spelled.{any_chunks}
 use Rattle.bit_tree.specs.Written.{front_of, back_of, operands_by, blob_by}
 use Rattle.bit_tree.proofs.Places.{ReadsFrom, anywhere, then_from, done_from, blob_bits, blob_reads}

@@ -1,10 +1,8 @@
 -- A reader on its way through a stream, and the pieces that it passed.
-use Rattle.std.proofs.Common.{◌≡◌, ℕ, ◌+◌, ◌-◌, ◌<◌, Bool, true, false, List, [], ◌∷◌, ◌++◌, length, Option, Some, None, Ok, Err, refl, sym, ap, subst, ◌∙◌, arith, inl, inr, append_assoc, length-append, map}
-use Rattle.std.specs.Prelude.{◌⊎◌}
-use Rattle.std.proofs.lemmas.List.{append-nil}
-use Rattle.bits.specs.Bits.{stream_bits}
-use Rattle.bits.specs.Cursor.{Cursor, Found}
-use Rattle.bits.specs.declared.fault.BitFault.{BitFault}
+use Rattle.std.proofs.Common.{◌≡◌, ℕ, ◌+◌, ◌-◌, ◌<◌, Bool, true, false, List, [], ◌∷◌, ◌++◌, length, Option, Some, None, Ok, Err, refl, sym, ap, subst, ◌∙◌, arith, length-append, map}
+use Rattle.bit_stream.specs.Bits.Bits.{stream_bits}
+use Rattle.bit_stream.specs.Bits.Cursor.{Cursor, Found}
+use Rattle.bit_stream.specs.declared.bits.fault.BitFault.{BitFault}
 use Rattle.bit_stream.specs.declared.abbreviation.AbbrevOp.{AbbrevOp}
 use Rattle.bit_stream.specs.declared.entry.Entry.{Entry}
 use Rattle.bit_stream.specs.declared.entry.Entry.TheVariants.{Block, EndBlock, Record, End}
@@ -13,15 +11,15 @@ use Rattle.bit_stream.specs.declared.fault.StreamFault.TheVariants.{Bit, Memory}
 use Rattle.bit_stream.specs.Abbreviation.{AdmittedAbbreviation, ops_of}
 use Rattle.bit_stream.specs.Scope.{Scope, top_level}
 use Rattle.bit_stream.specs.declared.told.LastSeen.{LastSeen}
-use Rattle.bit_stream.specs.Entry.{StreamItem, item, is_top, id_at, has_blob_by, defined_at, with_definition, NextItem, OnlyDefinitions, start, more}
+use Rattle.bit_stream.specs.Entry.{id_at, has_blob_by, with_definition, NextItem, OnlyDefinitions, start, more}
 use Rattle.bit_stream.specs.Reader.{StreamReader, begins, untold, opened, told_of, Arrived, Entered}
 use Rattle.bit_tree.specs.Read.{Judged}
 use Rattle.bit_tree.specs.Stream.{StreamTree, Stream, Stands, next_id, is_end, opening, stream_fault}
 use Rattle.bit_tree.specs.Pieces.{Piece, begun, ended, defines, holds, flat}
-use Rattle.bit_tree.proofs.Leaving.{IsWide, IsEnd, Goes, what_stands, top_wide}
-use Rattle.bit_tree.proofs.Path.{Step, Path, stop, step, join, then, way_wide, way_size, goes}
+use Rattle.bit_tree.proofs.Leaving.{IsWide, what_stands, top_wide}
+use Rattle.bit_tree.proofs.Path.{Path, stop, step, join, then, way_wide, way_size, goes}
 use Rattle.bit_tree.proofs.Faults.{fault_on, fault_here, to_stream_of, opening_size}
-use Rattle.bit_tree.proofs.Reading.{Ahead, reached, given, ends_at, is_last}
+use Rattle.bit_tree.proofs.Reading.{reached, given, ends_at, is_last}
 
 -- definitions one behind another, the first for this abbreviation id
 unfoldable pub defining : ℕ → List AdmittedAbbreviation → List Piece

@@ -3,3 +3,5 @@ pub mod Pieces
 pub mod Read
 pub mod Stream
 pub mod Written
+pub mod Starts
+pub mod Sizes

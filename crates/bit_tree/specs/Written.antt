@@ -2,8 +2,8 @@
 -- written.
 use Rattle.std.specs.Prelude.{◌≡◌, ℕ, ◌+◌, ◌<◌, ◌≤◌, ◌/◌, ◌^◌, ◌++◌, Bool, true, false, List, [], ◌∷◌, length, take, drop, Option, Some, None, IsSome, nat_lt}
 use Rattle.std.specs.List.{list_all}
-use Rattle.bits.specs.Bits.{stream_bits}
-use Rattle.bits.specs.Writing.{byte_pad}
+use Rattle.bit_stream.specs.Bits.Bits.{stream_bits}
+use Rattle.bit_stream.specs.Bits.Writing.{byte_pad}
 use Rattle.bit_stream.specs.declared.abbreviation.TheConstants.{WIDEST_CHUNK}
 use Rattle.bit_stream.specs.declared.abbreviation.AbbrevOp.{AbbrevOp}
 use Rattle.bit_stream.specs.declared.abbreviation.AbbrevOp.TheVariants.{Literal, Fixed, Vbr, Array, Char6, Blob}

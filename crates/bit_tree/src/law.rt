@@ -1,6 +1,6 @@
 //! Laws of the definitions, each the contract of a function that does nothing.
 ghost use Rattle.std.specs.Prelude.{◌≡◌, ◌⊎◌, ℕ, List, Some, None};
-ghost use Rattle.bits.specs.declared.fault.BitFault.{BitFault};
+ghost use Rattle.bit_stream.specs.declared.bits.fault.BitFault.{BitFault};
 ghost use Rattle.bit_tree.specs.Stream.{StreamTree, Stream, stream_fault};
 ghost use Rattle.bit_tree.specs.Written.{WrittenIsRead};
 

@@ -4,6 +4,13 @@
 //! It stands on `bit_stream`. Its promise: what is read of a stream is its tree, judged without holding it too, and
 //! what a writer wrote is read as what was written. Definitions: `specs/Stream`, `specs/Content`, `specs/Written`.
 //!
+//! Its modules:
+//!
+//! - `starts`: Which definitions BLOCKINFO gave to each block id, by the bits where they start,
+//!   twelve bytes a definition.
+//! - `sizes`: What a writer of a stream may be told to write, where the whole is small: fewer than
+//!   2^32 words.
+//!
 //! ```
 //! let mut writer = BitWriter::new(alloc)?;
 //! writer.enter(8, 3)?;
@@ -19,6 +26,8 @@
 mod held;
 mod law;
 mod read;
+pub mod sizes;
+pub mod starts;
 mod verdict;
 
 pub use held::{HeldEntry, HeldEntryList};

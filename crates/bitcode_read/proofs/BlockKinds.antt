@@ -8,9 +8,9 @@ use Rattle.record_table.specs.Records as records
 use Rattle.record_table.specs.Records.{body_block, first_due, may_follow, types_block}
 use Rattle.record_read.specs.declared.fault.BitcodeFault.{BitcodeFault}
 use Rattle.record_read.specs.Faults.{Answers, IsMisplaced}
-use Rattle.arena_read.specs.declared.module_reader.ModuleReader.{ModuleReader}
-use Rattle.head_read.specs.declared.ahead.ModuleAhead.{ModuleAhead}
-use Rattle.opening_read.proofs.Answering.{misplaced_so}
+use Rattle.type_read.specs.declared.arena.module_reader.ModuleReader.{ModuleReader}
+use Rattle.bitcode_read.specs.declared.head.ahead.ModuleAhead.{ModuleAhead}
+use Rattle.record_read.proofs.OnOpening.Answering.{misplaced_so}
 use Rattle.bitcode_read.specs.declared.sofar.Sofar.{Sofar}
 use Rattle.bitcode_read.specs.Sofar.{IsOut, IsSofar, ReadsBlock}
 

@@ -15,15 +15,15 @@ use Rattle.record_table.specs.Faults.{Records, a_block}
 use Rattle.record_table.specs.Fields.{Numbering}
 use Rattle.record_table.specs.Records as records
 use Rattle.record_table.specs.Records.{first_due, give_body, parameters_of, types_of, with_body}
-use Rattle.arena_read.specs.declared.counts.LocalCounts.{LocalCounts}
-use Rattle.arena_read.specs.declared.module_reader.ModuleReader.{ModuleReader}
-use Rattle.arena_read.specs.Growing.{Growing}
-use Rattle.arena_read.specs.Numbered.{Numbers}
-use Rattle.operand_read.specs.Found.{Always}
-use Rattle.body_ahead.specs.Ahead.{AreCounts, IsAhead}
-use Rattle.body_ahead.specs.declared.ahead.BodyAhead.{BodyAhead}
+use Rattle.type_read.specs.declared.arena.counts.LocalCounts.{LocalCounts}
+use Rattle.type_read.specs.declared.arena.module_reader.ModuleReader.{ModuleReader}
+use Rattle.type_read.specs.Arena.Growing.{Growing}
+use Rattle.type_read.specs.Arena.Numbered.{Numbers}
+use Rattle.body_read.specs.Operands.Found.{Always}
+use Rattle.body_read.specs.Ahead.Ahead.{AreCounts, IsAhead}
+use Rattle.body_read.specs.declared.ahead.ahead.BodyAhead.{BodyAhead}
 use Rattle.body_read.specs.Whole.{NumbersOutside}
-use Rattle.entries_ahead.specs.Bodies.{Foresees}
+use Rattle.bitcode_read.specs.Ahead.Bodies.{Foresees}
 use Rattle.bitcode_read.specs.declared.sofar.Sofar.{Sofar}
 use Rattle.bitcode_read.specs.Sofar.{IsDefined, IsDue, IsNextCounts, counts_due, head_of, parameter_names}
 use Rattle.bitcode_read.proofs.BodyNames.{called_long, called_names, parameters_again}

@@ -13,12 +13,12 @@ use Rattle.record_table.specs.Records.{give_body, may_follow}
 use Rattle.record_read.specs.declared.fault.BitcodeFault.{BitcodeFault}
 use Rattle.record_read.specs.Entries.{IsBefore}
 use Rattle.record_read.specs.Faults.{Answers}
-use Rattle.arena_read.specs.declared.counts.LocalCounts.{LocalCounts}
-use Rattle.arena_read.specs.declared.module_reader.ModuleReader.{ModuleReader}
-use Rattle.body_ahead.specs.Ahead.{AreCounts}
+use Rattle.type_read.specs.declared.arena.counts.LocalCounts.{LocalCounts}
+use Rattle.type_read.specs.declared.arena.module_reader.ModuleReader.{ModuleReader}
+use Rattle.body_read.specs.Ahead.Ahead.{AreCounts}
 use Rattle.body_read.specs.Whole.{IsWhole, KeepsCounts, NumbersOutside}
-use Rattle.head_read.specs.declared.ahead.ModuleAhead.{ModuleAhead}
-use Rattle.module_order.specs.Due.{due_at}
+use Rattle.bitcode_read.specs.declared.head.ahead.ModuleAhead.{ModuleAhead}
+use Rattle.record_read.specs.Order.Due.{due_at}
 use Rattle.bitcode_read.specs.declared.sofar.Sofar.{Sofar}
 use Rattle.bitcode_read.specs.Sofar.{IsNextCounts, IsOut, IsSofar}
 use Rattle.bitcode_read.proofs.Bodies.{counts_inside, numbers_outside}

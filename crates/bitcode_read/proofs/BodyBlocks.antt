@@ -18,23 +18,23 @@ use Rattle.record_table.specs.Records as records
 use Rattle.record_table.specs.Records.{body_block, first_due, give_body, may_follow}
 use Rattle.record_read.specs.declared.fault.BitcodeFault.{BitcodeFault}
 use Rattle.record_read.specs.Faults.{Answers, IsMisplaced}
-use Rattle.arena_read.specs.declared.counts.GlobalCounts.{GlobalCounts}
-use Rattle.arena_read.specs.declared.counts.LocalCounts.{LocalCounts}
-use Rattle.arena_read.specs.declared.module_reader.ModuleReader.{ModuleReader}
-use Rattle.arena_read.specs.Growing.{Growing, Grows}
-use Rattle.arena_read.proofs.Kept.{grows_two}
-use Rattle.operand_read.specs.Found.{Always}
+use Rattle.type_read.specs.declared.arena.counts.GlobalCounts.{GlobalCounts}
+use Rattle.type_read.specs.declared.arena.counts.LocalCounts.{LocalCounts}
+use Rattle.type_read.specs.declared.arena.module_reader.ModuleReader.{ModuleReader}
+use Rattle.type_read.specs.Arena.Growing.{Growing, Grows}
+use Rattle.type_read.proofs.OnArena.Kept.{grows_two}
+use Rattle.body_read.specs.Operands.Found.{Always}
 use Rattle.type_read.specs.Fields.{is_good}
-use Rattle.body_ahead.specs.Ahead.{AreNamesOf, first_names}
-use Rattle.body_ahead.specs.declared.ahead.BodyAhead.{BodyAhead}
+use Rattle.body_read.specs.Ahead.Ahead.{AreNamesOf, first_names}
+use Rattle.body_read.specs.declared.ahead.ahead.BodyAhead.{BodyAhead}
 use Rattle.body_read.specs.Whole.{IsWhole, KeepsCounts}
-use Rattle.head_read.specs.Ahead.{AreCounted}
-use Rattle.head_read.specs.declared.ahead.ModuleAhead.{ModuleAhead}
-use Rattle.entries_ahead.specs.Bodies.{Foresees, names_given, names_or_none}
-use Rattle.entries_ahead.specs.Entries.{names_behind, names_for}
-use Rattle.opening_read.proofs.Answering.{misplaced_so}
-use Rattle.reads_formed.proofs.Lists.{names_kept}
-use Rattle.module_order.specs.Due.{due_at}
+use Rattle.bitcode_read.specs.Head.Ahead.{AreCounted}
+use Rattle.bitcode_read.specs.declared.head.ahead.ModuleAhead.{ModuleAhead}
+use Rattle.bitcode_read.specs.Ahead.Bodies.{Foresees, names_given, names_or_none}
+use Rattle.bitcode_read.specs.Ahead.Entries.{names_behind, names_for}
+use Rattle.record_read.proofs.OnOpening.Answering.{misplaced_so}
+use Rattle.record_law.proofs.OnFormed.Lists.{names_kept}
+use Rattle.record_read.specs.Order.Due.{due_at}
 use Rattle.bitcode_read.specs.declared.sofar.Sofar.{Sofar}
 use Rattle.bitcode_read.specs.Sofar.{AreAliases, AreDeclared, AreFunctions, AreVariables, IsDefined, IsDue, IsEarly, IsLate, IsSofar, counts_due}
 use Rattle.bitcode_read.proofs.Bodies.{IsNextAhead, due_long, given, next_ahead}

@@ -14,10 +14,10 @@ use Rattle.record_table.specs.Fields.{Numbering, Texts, after, label}
 use Rattle.record_table.specs.Layout.{judged}
 use Rattle.record_table.specs.Lines.{ending, instruction, is_end}
 use Rattle.record_table.specs.Records.{parameters_of}
-use Rattle.body_labels.proofs.Kept.{declared}
-use Rattle.body_ahead.specs.Ahead.{first_names}
-use Rattle.entries_ahead.specs.Entries.{name_or_number, parameters_called}
-use Rattle.reads_formed.proofs.Records.{never_misplaced, then_ok}
+use Rattle.record_law.proofs.OnLabels.Kept.{declared}
+use Rattle.body_read.specs.Ahead.Ahead.{first_names}
+use Rattle.bitcode_read.specs.Ahead.Entries.{name_or_number, parameters_called}
+use Rattle.record_law.proofs.OnFormed.Records.{never_misplaced, then_ok}
 use Rattle.bitcode_read.proofs.Opened.{same_ok}
 
 -- ---- behind the first record

@@ -6,8 +6,8 @@ use Rattle.record_table.specs.Faults.{Answer, ◌>>=◌, BadRecord, ForeignProdu
 use Rattle.record_table.specs.Fields.{Texts, version_1}
 use Rattle.record_table.specs.Records.{ReadTable, at_first, is_ours, module_behind, module_block, module_from, nothing_behind, producer_from, read, table}
 use Rattle.record_table.specs.StringTable.{read_only}
-use Rattle.opening_read.specs.Entering.{Entered, block_of, module_in}
-use Rattle.opening_read.specs.Producer.{producer_of}
+use Rattle.record_read.specs.Opening.Entering.{Entered, block_of, module_in}
+use Rattle.record_read.specs.Opening.Producer.{producer_of}
 
 module _ (behind : Records) where
   in_two : (a : Answer ℕ) → (a >>= λ at. module_behind at behind) ≡ ((a >>= λ at. Ok (at, behind)) >>= λ (p : ℕ × Records). module_behind p.0 p.1)

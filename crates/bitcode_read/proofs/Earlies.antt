@@ -14,15 +14,15 @@ use Rattle.record_table.specs.TypeRecords.{names_in}
 use Rattle.record_table.specs.Walk.{going}
 use Rattle.record_read.specs.Faults.{Answers}
 use Rattle.record_read.specs.Reader.{Reader}
-use Rattle.arena_read.specs.declared.module_reader.ModuleReader.{ModuleReader}
-use Rattle.body_ahead.specs.declared.ahead.BodyAhead.{BodyAhead}
+use Rattle.type_read.specs.declared.arena.module_reader.ModuleReader.{ModuleReader}
+use Rattle.body_read.specs.declared.ahead.ahead.BodyAhead.{BodyAhead}
 use Rattle.type_read.specs.Listed.{AreGathered}
-use Rattle.head_read.specs.Ahead.{first_types}
-use Rattle.head_read.specs.declared.ahead.ModuleAhead.{ModuleAhead}
-use Rattle.entries_ahead.specs.Bodies.{Foresees}
-use Rattle.entries_ahead.specs.Entries.{Declares}
-use Rattle.module_order.specs.Order.{IsBehindRecord, StandsBehind}
-use Rattle.reads_formed.proofs.Sofar.{is_placed}
+use Rattle.bitcode_read.specs.Head.Ahead.{first_types}
+use Rattle.bitcode_read.specs.declared.head.ahead.ModuleAhead.{ModuleAhead}
+use Rattle.bitcode_read.specs.Ahead.Bodies.{Foresees}
+use Rattle.bitcode_read.specs.Ahead.Entries.{Declares}
+use Rattle.record_read.specs.Order.Order.{IsBehindRecord, StandsBehind}
+use Rattle.record_law.proofs.OnFormed.Sofar.{is_placed}
 use Rattle.bitcode_read.specs.declared.sofar.Sofar.{Sofar}
 use Rattle.bitcode_read.specs.Sofar.{IsEarly, IsLate, IsPast, IsSofar}
 

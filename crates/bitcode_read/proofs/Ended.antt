@@ -13,12 +13,12 @@ use Rattle.record_table.specs.Faults.{Answer, Records, BadRecord, a_block, a_rec
 use Rattle.record_table.specs.Fields.{Texts}
 use Rattle.record_table.specs.Records as records
 use Rattle.record_table.specs.Records.{at_first, block_in, ended, first_due, module_from, names_of, record_in}
-use Rattle.arena_read.specs.declared.counts.GlobalCounts.{GlobalCounts}
-use Rattle.arena_read.specs.Numbered.{IsGlobal}
-use Rattle.head_read.specs.Ahead.{AreCounted}
-use Rattle.reads_formed.proofs.Good.{AreTexts}
-use Rattle.reads_formed.proofs.Records.{block_step, record_step, then_ok}
-use Rattle.reads_formed.proofs.Sofar.{IsSoFar, aliases_named, functions_named, variables_named}
+use Rattle.type_read.specs.declared.arena.counts.GlobalCounts.{GlobalCounts}
+use Rattle.type_read.specs.Arena.Numbered.{IsGlobal}
+use Rattle.bitcode_read.specs.Head.Ahead.{AreCounted}
+use Rattle.record_law.proofs.OnFormed.Good.{AreTexts}
+use Rattle.record_law.proofs.OnFormed.Records.{block_step, record_step, then_ok}
+use Rattle.record_law.proofs.OnFormed.Sofar.{IsSoFar, aliases_named, functions_named, variables_named}
 use Rattle.bitcode_read.specs.Sofar.{AreCalled, AreDeclared}
 
 -- ---- what the definitions say of all that was read

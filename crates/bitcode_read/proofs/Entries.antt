@@ -14,20 +14,20 @@ use Rattle.record_table.specs.Layout.{judged}
 use Rattle.record_table.specs.Records as records
 use Rattle.record_table.specs.Records.{is_new, may_follow}
 use Rattle.record_table.specs.Walk.{going}
-use Rattle.body_labels.proofs.Kept.{also_held}
+use Rattle.record_law.proofs.OnLabels.Kept.{also_held}
 use Rattle.type_read.specs.Fields.{is_good}
-use Rattle.arena_read.specs.declared.counts.GlobalCounts.{GlobalCounts}
-use Rattle.arena_read.specs.declared.counts.LocalCounts.{LocalCounts}
-use Rattle.arena_read.specs.declared.module_reader.ModuleReader.{ModuleReader}
-use Rattle.arena_read.specs.Numbered.{Numbers}
-use Rattle.head_read.specs.Ahead.{AreCounted}
-use Rattle.head_read.specs.declared.ahead.ModuleAhead.{ModuleAhead}
-use Rattle.head_read.specs.Fronts.{function_front}
-use Rattle.entries_ahead.specs.Bodies.{names_given}
-use Rattle.entries_ahead.proofs.Told.{alias_told, bad_new, function_told, variable_told}
-use Rattle.entry_read.specs.Entries.{IsInFront, IsToldNew, Passes, ReadsAlias, ReadsFunction, ReadsVariable}
-use Rattle.reads_formed.proofs.Sofar.{is_placed}
-use Rattle.entry_read.proofs.Ended.{told_unbroken}
+use Rattle.type_read.specs.declared.arena.counts.GlobalCounts.{GlobalCounts}
+use Rattle.type_read.specs.declared.arena.counts.LocalCounts.{LocalCounts}
+use Rattle.type_read.specs.declared.arena.module_reader.ModuleReader.{ModuleReader}
+use Rattle.type_read.specs.Arena.Numbered.{Numbers}
+use Rattle.bitcode_read.specs.Head.Ahead.{AreCounted}
+use Rattle.bitcode_read.specs.declared.head.ahead.ModuleAhead.{ModuleAhead}
+use Rattle.bitcode_read.specs.Head.Fronts.{function_front}
+use Rattle.bitcode_read.specs.Ahead.Bodies.{names_given}
+use Rattle.bitcode_read.proofs.OnAhead.Told.{alias_told, bad_new, function_told, variable_told}
+use Rattle.bitcode_read.specs.Entry.Entries.{IsInFront, IsToldNew, Passes, ReadsAlias, ReadsFunction, ReadsVariable}
+use Rattle.record_law.proofs.OnFormed.Sofar.{is_placed}
+use Rattle.bitcode_read.proofs.OnEntry.Ended.{told_unbroken}
 use Rattle.bitcode_read.specs.declared.sofar.Sofar.{Sofar}
 use Rattle.bitcode_read.specs.Sofar.{AreDeclared, AreGood, IsEarly, IsLate, IsPast, IsSofar}
 use Rattle.bitcode_read.proofs.Functions.{functions_long}

@@ -13,10 +13,10 @@ use Rattle.module_arena.specs.Module as m
 use Rattle.module_arena.specs.View.{body_view, constants_of, parameter_view, type_at}
 use Rattle.record_table.specs.Bodies.{Begun}
 use Rattle.record_table.specs.Records.{first_due, give_body, with_body}
-use Rattle.arena_read.specs.Growing.{Growing, Grows}
-use Rattle.entries_ahead.specs.Entries.{names_behind, names_for}
-use Rattle.holding_set.specs.Holding.{Suits, defined_by}
-use Rattle.module_order.specs.Due.{due_at}
+use Rattle.type_read.specs.Arena.Growing.{Growing, Grows}
+use Rattle.bitcode_read.specs.Ahead.Entries.{names_behind, names_for}
+use Rattle.bitcode_read.specs.Holding.Holding.{Suits, defined_by}
+use Rattle.record_read.specs.Order.Due.{due_at}
 use Rattle.bitcode_read.specs.Sofar.{AreFunctions, IsDeclaration, IsDefined, IsDue, counts_due, head_of, parameter_names}
 use Rattle.bitcode_read.proofs.Growing.{always_later}
 

@@ -7,11 +7,11 @@ use Rattle.module_arena.specs.declared.entry.GlobalId.TheVariants as global
 use Rattle.module_arena.specs.Lists.{Lists, global_name, name_at}
 use Rattle.module_arena.specs.Module.{Bytes}
 use Rattle.record_table.specs.Fields.{Numbering}
-use Rattle.arena_read.specs.declared.module_reader.ModuleReader.{ModuleReader}
-use Rattle.arena_read.specs.Growing.{Growing, Grows, IsOver}
-use Rattle.arena_read.specs.Numbered.{IsDeclared, IsGlobal, Numbers, global_of}
-use Rattle.arena_read.proofs.Kept.{grows_self, grows_two, same_table}
-use Rattle.operand_read.specs.Found.{Always}
+use Rattle.type_read.specs.declared.arena.module_reader.ModuleReader.{ModuleReader}
+use Rattle.type_read.specs.Arena.Growing.{Growing, Grows, IsOver}
+use Rattle.type_read.specs.Arena.Numbered.{IsDeclared, IsGlobal, Numbers, global_of}
+use Rattle.type_read.proofs.OnArena.Kept.{grows_self, grows_two, same_table}
+use Rattle.body_read.specs.Operands.Found.{Always}
 use Rattle.bitcode_read.specs.Sofar.{AreDeclared}
 
 -- what goes on to hold does so later

@@ -13,9 +13,9 @@ use Rattle.record_read.specs.Entries.{IsBefore}
 use Rattle.record_read.specs.Faults.{Answers}
 use Rattle.record_read.specs.Fields.{texts_of}
 use Rattle.record_read.specs.Reader.{Reader}
-use Rattle.arena_read.specs.declared.module_reader.ModuleReader.{ModuleReader}
-use Rattle.head_read.specs.Ahead.{first_module}
-use Rattle.head_read.specs.declared.ahead.ModuleAhead.{ModuleAhead}
+use Rattle.type_read.specs.declared.arena.module_reader.ModuleReader.{ModuleReader}
+use Rattle.bitcode_read.specs.Head.Ahead.{first_module}
+use Rattle.bitcode_read.specs.declared.head.ahead.ModuleAhead.{ModuleAhead}
 use Rattle.bitcode_read.specs.Answers.{IsModule}
 use Rattle.bitcode_read.specs.Opening.{IsOpened}
 use Rattle.bitcode_read.specs.declared.sofar.Sofar as the_sofar

@@ -24,17 +24,17 @@ use Rattle.record_table.specs.Layout.{judged}
 use Rattle.record_table.specs.Records as records
 use Rattle.record_table.specs.Records.{is_new, may_follow}
 use Rattle.record_read.specs.Reader.{is_broken}
-use Rattle.arena_read.specs.declared.counts.GlobalCounts.{GlobalCounts}
-use Rattle.arena_read.specs.declared.module_reader.ModuleReader.{ModuleReader}
-use Rattle.arena_read.specs.Growing.{Growing, Grows}
-use Rattle.arena_read.proofs.Kept.{grows_two}
-use Rattle.operand_read.specs.Found.{Always}
-use Rattle.head_read.specs.Fronts.{alias_front, function_front, variable_front}
-use Rattle.entries_ahead.specs.Bodies.{Foresees, due_of, names_given}
-use Rattle.entries_ahead.specs.Entries.{Declares, alias_entry, front_of, function_entry, names_behind, names_for, variable_entry}
-use Rattle.entries_ahead.proofs.Told.{alias_told, function_told, variable_told}
-use Rattle.entry_read.specs.Entries.{HasInitialiser, ReadsAlias, ReadsFunction, ReadsVariable}
-use Rattle.holding_set.specs.Holding.{HasConstants, HasTargets, each_with, initialised_by}
+use Rattle.type_read.specs.declared.arena.counts.GlobalCounts.{GlobalCounts}
+use Rattle.type_read.specs.declared.arena.module_reader.ModuleReader.{ModuleReader}
+use Rattle.type_read.specs.Arena.Growing.{Growing, Grows}
+use Rattle.type_read.proofs.OnArena.Kept.{grows_two}
+use Rattle.body_read.specs.Operands.Found.{Always}
+use Rattle.bitcode_read.specs.Head.Fronts.{alias_front, function_front, variable_front}
+use Rattle.bitcode_read.specs.Ahead.Bodies.{Foresees, due_of, names_given}
+use Rattle.bitcode_read.specs.Ahead.Entries.{Declares, alias_entry, front_of, function_entry, names_behind, names_for, variable_entry}
+use Rattle.bitcode_read.proofs.OnAhead.Told.{alias_told, function_told, variable_told}
+use Rattle.bitcode_read.specs.Entry.Entries.{HasInitialiser, ReadsAlias, ReadsFunction, ReadsVariable}
+use Rattle.bitcode_read.specs.Holding.Holding.{HasConstants, HasTargets, each_with, initialised_by}
 use Rattle.bitcode_read.specs.declared.sofar.Sofar.{Sofar}
 use Rattle.bitcode_read.specs.Sofar.{AreAliases, AreDeclared, AreFunctions, AreVariables, IsLate, counts_due}
 use Rattle.bitcode_read.proofs.Functions.{IsMore, counts_more, functions_later, functions_more}

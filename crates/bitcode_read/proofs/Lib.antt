@@ -25,3 +25,7 @@ pub mod Views
 pub mod Ended
 pub mod Whole
 pub mod Loop
+pub mod OnHead
+pub mod OnAhead
+pub mod OnEntry
+pub mod OnHolding

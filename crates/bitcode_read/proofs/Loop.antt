@@ -17,10 +17,10 @@ use Rattle.record_read.specs.Entries.{Gives, IsBefore, IsInBlock}
 use Rattle.record_read.specs.Faults.{Answers}
 use Rattle.record_read.specs.Reader.{Reader}
 use Rattle.type_read.specs.Fields.{is_good}
-use Rattle.arena_read.specs.declared.module_reader.ModuleReader.{ModuleReader}
-use Rattle.arena_read.specs.Numbered.{Numbers}
-use Rattle.head_read.specs.Ahead.{AreCounted, IsAhead}
-use Rattle.head_read.specs.declared.ahead.ModuleAhead.{ModuleAhead}
+use Rattle.type_read.specs.declared.arena.module_reader.ModuleReader.{ModuleReader}
+use Rattle.type_read.specs.Arena.Numbered.{Numbers}
+use Rattle.bitcode_read.specs.Head.Ahead.{AreCounted, IsAhead}
+use Rattle.bitcode_read.specs.declared.head.ahead.ModuleAhead.{ModuleAhead}
 use Rattle.bitcode_read.specs.declared.sofar.Sofar.{Sofar}
 use Rattle.bitcode_read.specs.Sofar.{GoesOn, IsAtEnd, IsBegunOver, IsGoing, IsEarly, IsLate, IsOut, IsPast, IsSofar, MayBeTypes, ReadsBlock, ReadsPart, told_more}
 use Rattle.bitcode_read.proofs.Opened.{meant_by, refused_in_front, refused_so}

@@ -20,9 +20,9 @@ use Rattle.record_table.specs.Records.{Sofar, is_new}
 use Rattle.record_table.specs.Walk.{Walk}
 use Rattle.record_read.specs.Reader.{is_broken}
 use Rattle.type_read.specs.Fields.{is_good}
-use Rattle.entries_ahead.specs.Entries.{IsRefused}
-use Rattle.entries_ahead.proofs.Told.{Follows}
-use Rattle.entry_read.specs.Entries.{IsToldNew}
+use Rattle.bitcode_read.specs.Ahead.Entries.{IsRefused}
+use Rattle.bitcode_read.proofs.OnAhead.Told.{Follows}
+use Rattle.bitcode_read.specs.Entry.Entries.{IsToldNew}
 use Rattle.bitcode_read.specs.Sofar.{AreCalled}
 
 pub follows : (a : Lists) (s : Sofar) → AreCalled a s → Follows a s

@@ -1,6 +1,6 @@
 -- The numbers of the functions that are defined, where that of the function whose body is due stands behind those whose bodies came.
 use Rattle.std.proofs.Common.{◌≡◌, ◌+◌, ℕ, zero, suc, Bool, true, false, List, [], ◌∷◌, ◌++◌, length, slice_get, refl, ap, ◌∙◌, arith}
-use Rattle.module_order.specs.Due.{due_at}
+use Rattle.record_read.specs.Order.Due.{due_at}
 use Rattle.bitcode_read.specs.Sofar.{numbers_from, with_number}
 
 pub due_there : (defined : List Bool) (came first : ℕ) → slice_get (numbers_from first defined) came ≡ due_at defined came first

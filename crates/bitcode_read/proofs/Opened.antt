@@ -17,12 +17,12 @@ use Rattle.record_read.specs.Entries.{IsBefore}
 use Rattle.record_read.specs.Faults.{Answers}
 use Rattle.record_read.specs.Fields.{texts_of}
 use Rattle.record_read.specs.Reader.{Reader}
-use Rattle.head_read.specs.Ahead.{IsAhead, first_module}
-use Rattle.head_read.specs.declared.ahead.ModuleAhead.{ModuleAhead}
-use Rattle.opening_read.specs.Entering.{Entered, IsIn, block_of, module_in}
-use Rattle.opening_read.specs.Producer.{IsBehind, IsWholeStream, producer_of}
-use Rattle.opening_read.proofs.Answering.{out_of_memory}
-use Rattle.reads_formed.proofs.Records.{never_misplaced, then_ok}
+use Rattle.bitcode_read.specs.Head.Ahead.{IsAhead, first_module}
+use Rattle.bitcode_read.specs.declared.head.ahead.ModuleAhead.{ModuleAhead}
+use Rattle.record_read.specs.Opening.Entering.{Entered, IsIn, block_of, module_in}
+use Rattle.record_read.specs.Opening.Producer.{IsBehind, IsWholeStream, producer_of}
+use Rattle.record_read.proofs.OnOpening.Answering.{out_of_memory}
+use Rattle.record_law.proofs.OnFormed.Records.{never_misplaced, then_ok}
 use Rattle.bitcode_read.specs.Answers.{IsModule}
 use Rattle.bitcode_read.specs.Opening.{IsOpened, Opens}
 use Rattle.bitcode_read.proofs.Chained.{entered_module, module_is, read_is}

@@ -14,7 +14,7 @@ use Rattle.module_arena.specs.Lists.{Lists, name_at}
 use Rattle.module_arena.specs.Module.{Bytes}
 use Rattle.module_arena.specs.View.{alias_view, constants_of, function_view, grow, module_of, variable_view}
 use Rattle.record_table.specs.Records as records
-use Rattle.holding_set.specs.Holding.{AreUndefined, AreUnset, HasConstants, Suits, defined_by, each_with, initialised_by, targeted_by}
+use Rattle.bitcode_read.specs.Holding.Holding.{AreUndefined, AreUnset, HasConstants, Suits, defined_by, each_with, initialised_by, targeted_by}
 use Rattle.bitcode_read.specs.Answers.{IsModule}
 use Rattle.bitcode_read.specs.declared.sofar.Sofar.{Sofar}
 use Rattle.bitcode_read.specs.Sofar.{AreRead, AreSettable}

@@ -5,8 +5,8 @@ use Rattle.module_arena.specs.declared.entry.LocalName as the_local
 use Rattle.module_arena.specs.Lists.{Lists}
 use Rattle.record_table.specs.Faults.{Records, a_block, a_record, no_more}
 use Rattle.record_table.specs.Fields.{Texts}
-use Rattle.entries_ahead.specs.Entries.{Declares, DeclaresOne, Declaring, a_function, a_variable, an_alias, declaring, nothing}
-use Rattle.entries_ahead.proofs.Told.{get_front}
+use Rattle.bitcode_read.specs.Ahead.Entries.{Declares, DeclaresOne, Declaring, a_function, a_variable, an_alias, declaring, nothing}
+use Rattle.bitcode_read.proofs.OnAhead.Told.{get_front}
 
 module _ (texts : Texts) (types : ℕ) (final : Lists) where
   pub function_stays : (names : List (List the_local.LocalName)) (a : Lists) (rest : Records) → Declares texts types final names a rest → (i : ℕ) (f : the_function.Function) → slice_get a.functions i ≡ Some f → slice_get final.functions i ≡ Some f

@@ -10,15 +10,15 @@ use Rattle.record_table.specs.Faults.{Answer, Records, UnknownRecord, a_block, a
 use Rattle.record_table.specs.Fields.{Texts}
 use Rattle.record_table.specs.Layout.{judged}
 use Rattle.record_table.specs.TypeRecords.{TypeKind, Listed, all_fit, are_distinct, at_first, definition, ir_type, kind_of_code, kinds, listed, listed_by, listed_from, names_in, struct_record, type_record}
-use Rattle.body_labels.proofs.Kept.{unless_ok, also_held}
+use Rattle.record_law.proofs.OnLabels.Kept.{unless_ok, also_held}
 use Rattle.record_read.specs.Fields.{are_bytes}
 use Rattle.type_read.specs.Fields.{is_good}
 use Rattle.type_read.specs.Listed.{FindsBad, IsBad, are_good}
 use Rattle.type_read.proofs.Good.{distinct_new, good_push}
-use Rattle.reads_formed.proofs.Records.{never_misplaced, then_ok}
-use Rattle.reads_formed.proofs.Texts.{HoldsTexts, name_again}
-use Rattle.reads_formed.proofs.TypeRecords.{definition_read, name_ahead}
-use Rattle.reads_formed.proofs.Unbroken.{judged_read}
+use Rattle.record_law.proofs.OnFormed.Records.{never_misplaced, then_ok}
+use Rattle.record_law.proofs.OnFormed.Texts.{HoldsTexts, name_again}
+use Rattle.record_law.proofs.OnFormed.TypeRecords.{definition_read, name_ahead}
+use Rattle.record_law.proofs.OnFormed.Unbroken.{judged_read}
 
 module _ (t : Texts) (holds : HoldsTexts t) (good_of : (n : Bytes) → arena.is_name n ≡ true → is_good n ≡ true) (all : List Bytes) where
   record IsSoFar (rest : Records) (s : Listed) : Type 0 where

@@ -24,19 +24,19 @@ use Rattle.record_table.specs.Records as records
 use Rattle.record_table.specs.Records.{may_follow, types_block}
 use Rattle.record_table.specs.TypeRecords.{Listed, listed, names_in}
 use Rattle.record_read.specs.Reader.{Reader}
-use Rattle.arena_read.specs.declared.module_reader.ModuleReader.{ModuleReader}
-use Rattle.arena_read.specs.Growing.{Growing, IsOver}
-use Rattle.arena_read.proofs.Kept.{grows_self}
-use Rattle.body_ahead.specs.declared.ahead.BodyAhead.{BodyAhead}
-use Rattle.head_read.specs.declared.ahead.ModuleAhead.{ModuleAhead}
-use Rattle.entries_ahead.specs.Bodies.{Foresees, names_given}
-use Rattle.entries_ahead.specs.Entries.{Declares}
-use Rattle.reads_formed.proofs.Texts.{HoldsTexts}
-use Rattle.reads_formed.proofs.Trees.{body_wider}
+use Rattle.type_read.specs.declared.arena.module_reader.ModuleReader.{ModuleReader}
+use Rattle.type_read.specs.Arena.Growing.{Growing, IsOver}
+use Rattle.type_read.proofs.OnArena.Kept.{grows_self}
+use Rattle.body_read.specs.declared.ahead.ahead.BodyAhead.{BodyAhead}
+use Rattle.bitcode_read.specs.declared.head.ahead.ModuleAhead.{ModuleAhead}
+use Rattle.bitcode_read.specs.Ahead.Bodies.{Foresees, names_given}
+use Rattle.bitcode_read.specs.Ahead.Entries.{Declares}
+use Rattle.record_law.proofs.OnFormed.Texts.{HoldsTexts}
+use Rattle.record_law.proofs.OnFormed.Trees.{body_wider}
 use Rattle.type_read.specs.declared.structs.StructNames.{StructNames}
 use Rattle.type_read.specs.Listed.{AreGathered, AreNames, IsListed}
 use Rattle.bitcode_read.specs.declared.sofar.Sofar.{Sofar}
-use Rattle.holding_set.specs.Holding.{HasConstants, HasTargets, initialised_by, targeted_by}
+use Rattle.bitcode_read.specs.Holding.Holding.{HasConstants, HasTargets, initialised_by, targeted_by}
 use Rattle.bitcode_read.specs.Sofar.{AreDeclared, AreFunctions, IsEarly, IsLate, IsSofar, counts_due}
 use Rattle.bitcode_read.proofs.Stays.{table_stays}
 use Rattle.bitcode_read.proofs.StructNames.{good_name, names_good, none_bad}

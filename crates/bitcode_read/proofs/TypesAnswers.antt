@@ -17,14 +17,14 @@ use Rattle.record_read.specs.declared.texts.Texts.TheVariants as kind
 use Rattle.record_read.specs.Faults.{Answers}
 use Rattle.record_read.specs.Fields.{texts_of}
 use Rattle.record_read.specs.Reader.{Reader}
-use Rattle.arena_read.specs.declared.module_reader.ModuleReader.{ModuleReader}
-use Rattle.arena_read.specs.Growing.{Growing, IsOver}
-use Rattle.body_ahead.specs.declared.ahead.BodyAhead.{BodyAhead}
-use Rattle.head_read.specs.declared.ahead.ModuleAhead.{ModuleAhead}
-use Rattle.entries_ahead.specs.Bodies.{Foresees, names_given}
-use Rattle.entries_ahead.specs.Entries.{Declares}
-use Rattle.reads_formed.proofs.Good.{AreTexts}
-use Rattle.reads_formed.proofs.Texts.{texts_hold}
+use Rattle.type_read.specs.declared.arena.module_reader.ModuleReader.{ModuleReader}
+use Rattle.type_read.specs.Arena.Growing.{Growing, IsOver}
+use Rattle.body_read.specs.declared.ahead.ahead.BodyAhead.{BodyAhead}
+use Rattle.bitcode_read.specs.declared.head.ahead.ModuleAhead.{ModuleAhead}
+use Rattle.bitcode_read.specs.Ahead.Bodies.{Foresees, names_given}
+use Rattle.bitcode_read.specs.Ahead.Entries.{Declares}
+use Rattle.record_law.proofs.OnFormed.Good.{AreTexts}
+use Rattle.record_law.proofs.OnFormed.Texts.{texts_hold}
 use Rattle.type_read.specs.declared.structs.StructNames.{StructNames}
 use Rattle.type_read.specs.Listed.{AreGathered, AreNames, IsListed}
 use Rattle.bitcode_read.specs.declared.sofar.Sofar.{Sofar}

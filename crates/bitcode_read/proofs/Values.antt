@@ -16,8 +16,8 @@ use Rattle.record_table.specs.Records as records
 use Rattle.record_table.specs.Records.{alias_type_of, parameters_of}
 use Rattle.record_table.specs.TypeRecords.{earlier}
 use Rattle.record_table.specs.Walk.{Walk, going, stopped, next}
-use Rattle.head_read.specs.Fronts.{alias_front, function_front, function_type, kept_alias_type, variable_front}
-use Rattle.entries_ahead.specs.Entries.{alias_entry, front_of, function_entry, parameters_called, variable_entry}
+use Rattle.bitcode_read.specs.Head.Fronts.{alias_front, function_front, function_type, kept_alias_type, variable_front}
+use Rattle.bitcode_read.specs.Ahead.Entries.{alias_entry, front_of, function_entry, parameters_called, variable_entry}
 use Rattle.bitcode_read.specs.Sofar.{IsDeclaration, IsDue}
 
 -- ---- types by their indices

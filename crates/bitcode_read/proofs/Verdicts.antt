@@ -16,7 +16,7 @@ use Rattle.record_table.specs.Records.{Spells, fault_in, read}
 use Rattle.record_read.specs.declared.fault.BitcodeFault.{BitcodeFault}
 use Rattle.record_read.specs.declared.fault.BitcodeFault.TheVariants as fault
 use Rattle.record_read.specs.Faults.{Answers, IsFault, of_stream}
-use Rattle.reads_formed.proofs.Whole.{stands_well}
+use Rattle.record_law.proofs.OnFormed.Whole.{stands_well}
 use Rattle.bitcode_read.specs.Answers.{IsModule, IsReadAs, IsReadFault}
 
 -- the records of the stream answer

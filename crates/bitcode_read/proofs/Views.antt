@@ -15,7 +15,7 @@ use Rattle.module_arena.specs.Known.{Counts, KnowsAlias, KnowsVariable, alias_ty
 use Rattle.module_arena.specs.Module as m
 use Rattle.module_arena.specs.Module.{Bytes, Constant}
 use Rattle.module_arena.specs.View.{alias_type_view, alias_view, type_at, variable_view}
-use Rattle.holding_set.specs.Holding.{initialised_by, targeted_by}
+use Rattle.bitcode_read.specs.Holding.Holding.{initialised_by, targeted_by}
 
 -- the types of a table stay where others are added
 pub types_agree : (t : Types) (id : ℕ) → id < length t.types → type_at (trees (with_type (with_type t type.Ptr) (type.Int 1))) id ≡ type_at (trees t) id

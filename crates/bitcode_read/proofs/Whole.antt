@@ -18,16 +18,16 @@ use Rattle.record_table.specs.Records as records
 use Rattle.record_table.specs.Records.{at_first, ended, first_due, module_from}
 use Rattle.record_read.specs.declared.fault.BitcodeFault.{BitcodeFault}
 use Rattle.record_read.specs.Faults.{Answers}
-use Rattle.arena_read.specs.declared.module_reader.ModuleReader.{ModuleReader}
-use Rattle.arena_read.proofs.Kept.{same_table}
-use Rattle.head_read.specs.declared.ahead.ModuleAhead.{ModuleAhead}
-use Rattle.entries_ahead.specs.Bodies.{names_given}
-use Rattle.holding_set.specs.Holding.{AreUndefined, AreUnset, AreUntargeted, HasConstants, HasTargets, Suits, defined_by, initialised_by, targeted_by}
-use Rattle.reads_formed.proofs.Good.{AreTexts}
+use Rattle.type_read.specs.declared.arena.module_reader.ModuleReader.{ModuleReader}
+use Rattle.type_read.proofs.OnArena.Kept.{same_table}
+use Rattle.bitcode_read.specs.declared.head.ahead.ModuleAhead.{ModuleAhead}
+use Rattle.bitcode_read.specs.Ahead.Bodies.{names_given}
+use Rattle.bitcode_read.specs.Holding.Holding.{AreUndefined, AreUnset, AreUntargeted, HasConstants, HasTargets, Suits, defined_by, initialised_by, targeted_by}
+use Rattle.record_law.proofs.OnFormed.Good.{AreTexts}
 use Rattle.bitcode_read.specs.declared.sofar.Sofar.{Sofar}
 use Rattle.bitcode_read.specs.Sofar.{AreDeclared, AreRead, AreSettable, IsDefined, IsEarly, IsLate, IsSofar, IsWhole, head_of, parameter_names}
 use Rattle.bitcode_read.proofs.Ended.{all_declared, whole_so_far}
-use Rattle.module_order.specs.Due.{due_at}
+use Rattle.record_read.specs.Order.Due.{due_at}
 use Rattle.bitcode_read.proofs.Functions.{due_same, functions_are}
 use Rattle.bitcode_read.proofs.Opened.{refused_so}
 use Rattle.bitcode_read.proofs.Growing.{always_now, arena_is, name_same}

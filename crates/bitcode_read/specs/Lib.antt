@@ -1,3 +1,7 @@
 pub mod Answers
 pub mod Opening
 pub mod Sofar
+pub mod Head
+pub mod Ahead
+pub mod Entry
+pub mod Holding

@@ -12,8 +12,8 @@ use Rattle.record_read.specs.Entries.{IsBefore}
 use Rattle.record_read.specs.Faults.{Answers}
 use Rattle.record_read.specs.Fields.{texts_of}
 use Rattle.record_read.specs.Reader.{Reader}
-use Rattle.head_read.specs.Ahead.{IsAhead, first_module}
-use Rattle.head_read.specs.declared.ahead.ModuleAhead.{ModuleAhead}
+use Rattle.bitcode_read.specs.Head.Ahead.{IsAhead, first_module}
+use Rattle.bitcode_read.specs.declared.head.ahead.ModuleAhead.{ModuleAhead}
 use Rattle.bitcode_read.specs.Answers.{IsModule}
 use Rattle.bitcode_read.specs.declared.opening.Opening.{Opening}
 

@@ -31,18 +31,18 @@ use Rattle.record_read.specs.Fields.{are_bytes}
 use Rattle.record_read.specs.Reader.{Reader}
 use Rattle.type_read.specs.Fields.{is_good}
 use Rattle.type_read.specs.Listed.{AreGathered}
-use Rattle.arena_read.specs.declared.counts.GlobalCounts.{GlobalCounts}
-use Rattle.arena_read.specs.declared.counts.LocalCounts.{LocalCounts}
-use Rattle.arena_read.specs.declared.module_reader.ModuleReader.{ModuleReader}
-use Rattle.arena_read.specs.Growing.{Growing, Grows, IsOver}
-use Rattle.arena_read.specs.Numbered.{IsGlobal, Numbers, global_of}
-use Rattle.operand_read.specs.Found.{Always}
-use Rattle.body_ahead.specs.declared.ahead.BodyAhead.{BodyAhead}
-use Rattle.head_read.specs.Ahead.{AreCounted, IsAhead, first_module, first_types}
-use Rattle.head_read.specs.declared.ahead.ModuleAhead.{ModuleAhead}
-use Rattle.entries_ahead.specs.Bodies.{Foresees, names_given}
-use Rattle.entries_ahead.specs.Entries.{Declares, names_behind, names_for, parameters_called}
-use Rattle.holding_set.specs.Holding.{AreUndefined, AreUnset, AreUntargeted, HasConstants, HasTargets, Suits, defined_by, initialised_by, targeted_by}
+use Rattle.type_read.specs.declared.arena.counts.GlobalCounts.{GlobalCounts}
+use Rattle.type_read.specs.declared.arena.counts.LocalCounts.{LocalCounts}
+use Rattle.type_read.specs.declared.arena.module_reader.ModuleReader.{ModuleReader}
+use Rattle.type_read.specs.Arena.Growing.{Growing, Grows, IsOver}
+use Rattle.type_read.specs.Arena.Numbered.{IsGlobal, Numbers, global_of}
+use Rattle.body_read.specs.Operands.Found.{Always}
+use Rattle.body_read.specs.declared.ahead.ahead.BodyAhead.{BodyAhead}
+use Rattle.bitcode_read.specs.Head.Ahead.{AreCounted, IsAhead, first_module, first_types}
+use Rattle.bitcode_read.specs.declared.head.ahead.ModuleAhead.{ModuleAhead}
+use Rattle.bitcode_read.specs.Ahead.Bodies.{Foresees, names_given}
+use Rattle.bitcode_read.specs.Ahead.Entries.{Declares, names_behind, names_for, parameters_called}
+use Rattle.bitcode_read.specs.Holding.Holding.{AreUndefined, AreUnset, AreUntargeted, HasConstants, HasTargets, Suits, defined_by, initialised_by, targeted_by}
 use Rattle.bitcode_read.specs.declared.sofar.Sofar.{Sofar}
 
 -- ---- in front of the types

@@ -11,21 +11,21 @@ ghost use Rattle.record_table.specs.Records as records;
 ghost use Rattle.record_read.specs.declared.fault.BitcodeFault.TheVariants as fault;
 ghost use Rattle.record_read.specs.Entries.{IsInBlock};
 ghost use Rattle.record_read.specs.Fields.{texts_of};
-ghost use Rattle.head_read.specs.Ahead.{first_module};
-ghost use Rattle.head_read.specs.declared.ahead.ModuleAhead as the_ahead;
-ghost use Rattle.module_order.specs.Due.{due_at};
+ghost use Rattle.bitcode_read.specs.Head.Ahead.{first_module};
+ghost use Rattle.bitcode_read.specs.declared.head.ahead.ModuleAhead as the_ahead;
+ghost use Rattle.record_read.specs.Order.Due.{due_at};
 ghost use Rattle.bitcode_read.specs.Sofar.{AreBytesHeld, HasRoom, IsNextCounts, IsTypesBegun, MayBeTypes, ReadsBlock};
 
+use crate::ahead::declare_entries;
+use crate::head::ModuleAhead;
 use crate::sofar::Sofar;
-use arena_read::{GrowingArena, LocalCounts, ModuleReader};
 use body_read::read_body;
-use entries_ahead::declare_entries;
-use head_read::ModuleAhead;
 use module_arena::{Arena, FunctionId};
-use module_order::ModulePart;
+use record_read::order::ModulePart;
 use record_read::{BitcodeFault, Texts, misplaced};
 use record_table::{BODY_BLOCK, TYPES_BLOCK};
 use std::mem;
+use type_read::arena::{GrowingArena, LocalCounts, ModuleReader};
 use type_read::{name_structs, read_types};
 
 /// What holds of the lists of every arena.

@@ -8,17 +8,17 @@ ghost use Rattle.record_table.specs.Records as records;
 ghost use Rattle.record_read.specs.Entries.{IsBefore};
 ghost use Rattle.record_read.specs.Faults.{Answers};
 ghost use Rattle.record_read.specs.Fields.{texts_of};
-ghost use Rattle.head_read.specs.Ahead.{first_module};
-ghost use Rattle.head_read.specs.declared.ahead.ModuleAhead as the_ahead;
+ghost use Rattle.bitcode_read.specs.Head.Ahead.{first_module};
+ghost use Rattle.bitcode_read.specs.declared.head.ahead.ModuleAhead as the_ahead;
 ghost use Rattle.bitcode_read.specs.Sofar.{AreBytesHeld, GoesOn, HasRoom, IsAmong, IsAtEnd, IsGoing, IsModuleBegun, IsWhole, told_end, told_more};
 
 use crate::blocks::read_block;
+use crate::head::ModuleAhead;
 use crate::records::read_record;
 use crate::sofar::Sofar;
-use arena_read::ModuleReader;
-use head_read::ModuleAhead;
-use module_order::{expect_whole, next_due};
+use record_read::order::{expect_whole, next_due};
 use record_read::{BitcodeFault, NextEntry, Texts};
+use type_read::arena::ModuleReader;
 
 /// True where something was read that is not the end.
 fn more(read: Result<(), BitcodeFault>) -> Result<bool, BitcodeFault>

@@ -6,8 +6,8 @@ ghost use Rattle.bit_tree.specs.Stream.{StreamTree, Stream};
 ghost use Rattle.bitcode_read.specs.Opening.{Opens};
 ghost use Rattle.bitcode_read.specs.Sofar.{AreBytesHeld};
 
-use head_read::{ModuleAhead, look_ahead};
-use opening_read::{read_producer, read_texts};
+use crate::head::{ModuleAhead, look_ahead};
+use record_read::opening::{read_producer, read_texts};
 use record_read::{BitcodeFault, RecordReader, Texts, each_is_byte};
 use std::alloc::Global;
 

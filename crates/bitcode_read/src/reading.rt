@@ -14,17 +14,17 @@ ghost use Rattle.bitcode_read.specs.Answers.{IsModule, IsReadAs, IsReadFault};
 ghost use Rattle.bitcode_read.specs.Opening.{IsOpened, IsOpenedStream};
 ghost use Rattle.bitcode_read.specs.Sofar.{AreBytesHeld, AreRead, AreSettable, IsBegunOver};
 
+use crate::head::ModuleAhead;
+use crate::holding::{set_bodies, set_initialisers, set_targets};
 use crate::module::read_module;
 use crate::opening::{Opening, open_stream};
 use crate::sofar::Sofar;
-use arena_read::{GrowingArena, LocalCounts, ModuleReader};
-use bit_walk::judge;
-use head_read::ModuleAhead;
-use holding_set::{set_bodies, set_initialisers, set_targets};
+use bit_dump::walk::judge;
 use module_arena::Arena;
-use opening_read::expect_end;
+use record_read::opening::expect_end;
 use record_read::{BitcodeFault, RecordReader, Texts};
 use std::alloc::{AllocError, Global};
+use type_read::arena::{GrowingArena, LocalCounts, ModuleReader};
 
 /// Nothing of a module's block is read yet: the arena has no types but those that records do not name.
 fn begin<'b>(

@@ -4,13 +4,13 @@ ghost use Rattle.module_arena.specs.declared.arena.TheConstants.{COUNT_LIMIT};
 ghost use Rattle.record_read.specs.Fields.{texts_of};
 ghost use Rattle.bitcode_read.specs.Sofar.{HasRoom, ReadsPart, with_number};
 
+use crate::entry::{read_alias, read_function, read_variable};
 use crate::sofar::Sofar;
-use arena_read::ModuleReader;
-use entry_read::{read_alias, read_function, read_variable};
-use module_order::{ModulePart, read_module_text, read_version};
+use record_read::order::{ModulePart, read_module_text, read_version};
 use record_read::{BitcodeFault, Texts};
 use record_table::{ALIAS, FUNCTION, LAYOUT, MODULE_BLOCK, SOURCE, TRIPLE, VARIABLE, VERSION};
 use std::alloc::AllocError;
+use type_read::arena::ModuleReader;
 
 /// Reads the version.
 fn read_version_part(

@@ -1,7 +1,7 @@
 //! What was read of a module's block so far.
 ghost use Rattle.std.specs.Prelude.{◌≡◌, [], None};
 
-use body_ahead::BodyAhead;
+use body_read::ahead::BodyAhead;
 use ir_base::Text;
 use module_arena::{Body, ConstId, GlobalId};
 use std::alloc::Global;

@@ -1,22 +1,20 @@
 -- In a valid module each line of each body can be spelled as it is.
-use Rattle.std.proofs.Common.{◌≡◌, ℕ, ◌+◌, Bool, true, ◌&&◌, ◌||◌, not, List, [], ◌∷◌, ◌++◌, length, map, flat_map, Option, Some, None, is_some, refl, sym, ap, ◌∙◌, subst}
+use Rattle.std.proofs.Common.{◌≡◌, ℕ, ◌+◌, true, ◌&&◌, List, [], ◌∷◌, length, flat_map, is_some}
 use Rattle.std.specs.List.{list_all, AllByRecursion}
 use Rattle.std.proofs.lemmas.Bool.{and_parts}
 use Rattle.type_table.specs.Tree.{ptr}
-use Rattle.module_arena.specs.Module.{Operation, Call, Instruction, Block, Variable, Alias, Function, Module}
-use Rattle.module_arena.specs.Constants.{fits}
-use Rattle.module_arena.specs.EntryRules.{alias_suits, is_lasting, target_suits}
+use Rattle.module_arena.specs.Module.{Operation, Call, Instruction, Block, Function, Module}
 use Rattle.module_arena.specs.Flow.{flow_of}
-use Rattle.module_arena.specs.Forms.{is_instruction_of_phrase, is_operation_of_phrase, has_result_of_phrase, is_not_empty}
+use Rattle.module_arena.specs.Forms.{is_instruction_of_phrase, is_operation_of_phrase, has_result_of_phrase}
 use Rattle.module_arena.specs.Functions.{blocks}
 use Rattle.module_arena.specs.Names.{has_good_names}
 use Rattle.module_arena.specs.Operations.{operands, ending_operands, callee}
 use Rattle.module_arena.specs.ValueRules.{operands_fit, callee_fits}
-use Rattle.module_arena.specs.Valid.{AllHold, IsValid, instruction_demands, ending_demands, instructions_demands, blocks_demands, function_demands, definedness_demands, operation_uses, operand_uses}
+use Rattle.module_arena.specs.Valid.{AllHold, instruction_demands, ending_demands, instructions_demands, blocks_demands, function_demands, definedness_demands, operation_uses, operand_uses}
 use Rattle.module_arena.specs.Valid as valid
 use Rattle.module_arena.specs.WellFormed.{is_good_type, is_good_constant, is_good_block, is_good_function, are_good_operands, types_of_operation, known_in, known_of_operands, known_of_operation, known_of_block}
 use Rattle.module_arena.proofs.Parts.{front_holds, rest_holds, valid_blocks, valid_ending}
-use Rattle.record_table.specs.Standing.{OperandStands, InstructionStands, EndingStands}
+use Rattle.record_table.specs.Standing.{InstructionStands, EndingStands}
 use Rattle.bitcode_write.proofs.Fitting.{all_front, all_rest, value_stands, operands_stand, CalleeStands, operation_stands, result_stands, ending_stands}
 
 -- of a block: its instructions and its end

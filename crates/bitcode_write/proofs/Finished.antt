@@ -1,11 +1,11 @@
 -- The bytes of a stream of whole words.
 use Rattle.std.proofs.Common.{◌≡◌, ℕ, ◌-◌, ◌/◌, ◌%◌, ◌<◌, Bool, false, List, ◌++◌, length, get_or, replicate, sym, ap, ◌∙◌, arith}
 use Rattle.std.proofs.lemmas.List.{append-nil, take_all}
-use Rattle.bits.specs.Bits.{stream_bits}
-use Rattle.bits.specs.Reading.{bytes_of}
-use Rattle.bits.specs.Writing.{byte_pad}
-use Rattle.bits.proofs.BitsLaws.{length-stream_bits}
-use Rattle.bits.proofs.Places.{bytes_are}
+use Rattle.bit_stream.specs.Bits.Bits.{stream_bits}
+use Rattle.bit_stream.specs.Bits.Reading.{bytes_of}
+use Rattle.bit_stream.specs.Bits.Writing.{byte_pad}
+use Rattle.bit_stream.proofs.OnBits.BitsLaws.{length-stream_bits}
+use Rattle.bit_stream.proofs.OnBits.Places.{bytes_are}
 
 -- the bytes that give these bits
 pub bytes_back : (bits : List Bool) (text : List ℕ) → length bits % 32 ≡ 0 → ((i : ℕ) → get_or text i 0 < 256) → stream_bits text ≡ bits ++ byte_pad (length bits) → text ≡ bytes_of (length bits / 8) bits

@@ -1,21 +1,21 @@
 -- What validity says of constants and lines, as far as their operands need it.
-use Rattle.std.proofs.Common.{◌≡◌, ℕ, zero, suc, ◌+◌, ◌-◌, ◌<◌, ◌≤◌, ◌^◌, Bool, true, false, ◌&&◌, ◌||◌, not, nat_lt, nat_le, List, [], ◌∷◌, ◌++◌, length, map, flat_map, Option, Some, None, is_some, is_none, refl, sym, ap, ◌∙◌, subst, arith, All}
+use Rattle.std.proofs.Common.{◌≡◌, ℕ, ◌+◌, ◌-◌, ◌<◌, ◌≤◌, ◌^◌, Bool, true, false, ◌&&◌, ◌||◌, not, nat_lt, nat_le, List, [], ◌∷◌, ◌++◌, map, Option, Some, None, is_some, is_none, refl, sym, ap, subst, arith}
 use Rattle.std.specs.List.{list_all, AllByRecursion}
 use Rattle.std.proofs.lemmas.Bool.{and_parts, false≢true, ltb-true, ltb-false, leb-true, eqb-true}
 use Rattle.std.proofs.lemmas.List.Elements.{All-from_recursion}
 use Rattle.std.proofs.Math.Pow.{pow_mono}
-use Rattle.type_table.specs.Tree.{Tree, int, ptr, void, array, struct, named, Trees, no_trees, more_trees}
-use Rattle.module_arena.specs.Module.{LocalName, Constant, Integer, Truth, Null, Undef, Poison, ZeroInitializer, Address, ByteString, Aggregate, ElementAddress, Cast, Binary, Constants, no_constants, more_constants, Value, Local, Known, Operand, Incoming, Operation, BinaryOperation, Compare, Convert, Select, Freeze, Phi, Load, Store, Alloca, GetElementPtr, Call, ExtractValue, InsertValue, Instruction, Case, Ending, ReturnVoid, Return, Jump, Branch, Switch, Unreachable, Function, Module}
+use Rattle.type_table.specs.Tree.{Tree, int, ptr, void, array, struct, named, no_trees, more_trees}
+use Rattle.module_arena.specs.Module.{LocalName, Constant, Integer, Truth, Null, Undef, Poison, ZeroInitializer, Address, ByteString, Aggregate, ElementAddress, Cast, Binary, Constants, no_constants, more_constants, Value, Local, Known, Operand, Incoming, Operation, BinaryOperation, Compare, Convert, Select, Freeze, Phi, Load, Store, Alloca, GetElementPtr, Call, ExtractValue, InsertValue, Case, Ending, ReturnVoid, Return, Jump, Branch, Switch, Unreachable, Function, Module}
 use Rattle.module_arena.specs.Same.{same_type}
 use Rattle.module_arena.specs.TypeTests.{is_integer_of, is_pointer, is_void, opened}
 use Rattle.module_arena.specs.Constants.{Typed, Expected, each, these, as_written, nothing, expected, fits, parts_fit, element_operands_fit, is_cast_between, constants_in, constants_of}
-use Rattle.module_arena.specs.Forms.{is_binary, is_cast, are_flags_of, is_operation_of_phrase, has_result_of_phrase, is_small_alignment}
+use Rattle.module_arena.specs.Forms.{is_binary, is_cast, are_flags_of, is_operation_of_phrase, has_result_of_phrase}
 use Rattle.module_arena.specs.Operations.{operands, ending_operands, callee, incoming_operand, case_operand}
 use Rattle.module_arena.specs.InstructionRules.{operation_alignment_suits}
-use Rattle.module_arena.specs.ValueRules.{value_fits, operands_fit, callee_fits, arithmetic_suits, address_suits, element_address_suits, arguments_suit, call_suits, is_pointer_value, is_case_of, ending_suits}
-use Rattle.module_arena.specs.WellFormed.{is_good_type, type_in_constant, is_in_range, is_good_part, depth, is_good_constant, known_in, known_of_operands}
+use Rattle.module_arena.specs.ValueRules.{value_fits, operands_fit, arithmetic_suits, address_suits, element_address_suits, arguments_suit, call_suits, is_pointer_value, is_case_of, ending_suits}
+use Rattle.module_arena.specs.WellFormed.{is_good_part, depth, is_good_constant, known_in, known_of_operands}
 use Rattle.module_arena.proofs.SameValues.{type_is}
-use Rattle.record_table.specs.Standing.{is_wide, HasRoom, Stands, AllStand, ValueStands, OperandStands, PlaceStands, ArgumentsStand, OperationStands, CallResultStands, ResultStands, CaseStands, EndingStands}
+use Rattle.record_table.specs.Standing.{HasRoom, Stands, AllStand, ValueStands, OperandStands, PlaceStands, ArgumentsStand, OperationStands, CallResultStands, ResultStands, CaseStands, EndingStands}
 
 -- both parts of a list pass
 pub all_front : {A : Type 0} (p : A → Bool) (xs ys : List A) → list_all p (xs ++ ys) ≡ true → list_all p xs ≡ true

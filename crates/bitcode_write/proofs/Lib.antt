@@ -9,3 +9,4 @@ mod TypeLines
 mod ByteBlock
 mod Finished
 mod Whole
+pub mod OnLines

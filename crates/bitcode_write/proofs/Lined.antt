@@ -1,5 +1,5 @@
 -- Records and blocks that are written one behind the other.
-use Rattle.std.proofs.Common.{◌≡◌, ℕ, ◌+◌, ◌-◌, ◌<◌, ◌≤◌, Bool, true, false, Result, Ok, List, [], ◌∷◌, ◌++◌, length, take, drop, get_or, refl, sym, ap, ◌∙◌, subst, arith}
+use Rattle.std.proofs.Common.{◌≡◌, ℕ, ◌+◌, ◌-◌, ◌<◌, ◌≤◌, Bool, true, false, Ok, List, [], ◌∷◌, ◌++◌, length, drop, get_or, refl, sym, ap, ◌∙◌, subst, arith}
 use Rattle.std.proofs.lemmas.List.{at_drop_more, at_drop_all, length-append, take_at}
 use Rattle.std.proofs.lemmas.Bool.{true≢false}
 use Rattle.bit_stream.specs.Writer.{Writer, Writes, enter, end_block, define, put_record, abbreviated, id_bits}
@@ -7,7 +7,7 @@ use Rattle.bit_stream.specs.Spelling.{chunks, aligned}
 use Rattle.bit_tree.specs.Written.{Written, no_more, a_block, a_definition, a_record, a_short_record, written}
 use Rattle.record_table.specs.Faults.{body_id}
 use Rattle.record_table.specs.Spelling.{Line, put, put_block, put_bodies}
-use Rattle.bitcode_write.specs.Put.{IsOpen, IsOutside, Puts, PutsLines, PutsOutside}
+use Rattle.bitcode_write.specs.Put.{IsOpen, Puts, PutsLines}
 
 -- what is written of a list of records in two parts
 pub put_append : (xs ys : List Line) (behind : Written) → put (xs ++ ys) behind ≡ put xs (put ys behind)

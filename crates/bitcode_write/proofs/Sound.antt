@@ -1,15 +1,15 @@
 -- The entries of a checked module can be spelled as they are.
-use Rattle.std.proofs.Common.{◌≡◌, ℕ, zero, suc, ◌+◌, ◌<◌, Bool, true, false, ◌&&◌, ◌||◌, not, List, [], ◌∷◌, ◌++◌, length, map, flat_map, Option, Some, None, All, get_or, bytes_eq, is_some, inl, inr, refl, sym, ap, ◌∙◌, subst, arith}
+use Rattle.std.proofs.Common.{◌≡◌, ℕ, zero, suc, ◌+◌, ◌<◌, Bool, true, false, ◌&&◌, not, List, [], ◌∷◌, ◌++◌, length, map, flat_map, Option, Some, None, All, get_or, bytes_eq, is_some, inl, inr, refl, ap, ◌∙◌, subst, arith}
 use Rattle.std.specs.List.{list_all, list_any, AllByRecursion, IsDistinct}
 use Rattle.std.specs.Option.{option_map, option_map_or, option_to_list}
 use Rattle.std.proofs.lemmas.Bool.{and_parts, and_from, or_cases, or_left, or_right, or_parts, both_ways, not_from_true, not_from_false, false_from_ne_true, false≢true, not-true}
 use Rattle.std.proofs.lemmas.List.{append-nil}
 use Rattle.std.proofs.lemmas.Slice.Eq.{bytes_eq-Decides}
-use Rattle.std.proofs.lemmas.List.Elements.{All-cons, All-head, All-from_recursion, All-weaker}
+use Rattle.std.proofs.lemmas.List.Elements.{All-cons, All-from_recursion}
 use Rattle.ir_tables.specs.Table.{is_distinct}
 use Rattle.type_table.proofs.Judged.{All-left, All-right}
 use Rattle.type_table.specs.Tree.{Tree, Structs}
-use Rattle.type_table.specs.Types.{trees, tree, structs}
+use Rattle.type_table.specs.Types.{tree, structs}
 use Rattle.module_arena.specs.declared.entry.Alias as the_alias
 use Rattle.module_arena.specs.declared.entry.AliasType.TheVariants as alias_type
 use Rattle.module_arena.specs.declared.entry.Block as the_block
@@ -23,9 +23,9 @@ use Rattle.module_arena.specs.declared.instruction.Operand as the_operand
 use Rattle.module_arena.specs.declared.instruction.Value as the_value
 use Rattle.module_arena.specs.declared.instruction.Value.TheVariants as value
 use Rattle.module_arena.specs.Constants.{fits}
-use Rattle.module_arena.specs.EntryRules.{alias_suits, is_lasting, is_lasting_variable, is_lasting_function, target_suits}
+use Rattle.module_arena.specs.EntryRules.{is_lasting, target_suits}
 use Rattle.module_arena.specs.Functions.{blocks}
-use Rattle.module_arena.specs.Known.{upto, HasOperand, HasValue, KnowsBlock, KnowsBody, KnowsFunction, IsGood}
+use Rattle.module_arena.specs.Known.{upto, HasValue, KnowsBlock, KnowsBody, KnowsFunction, IsGood}
 use Rattle.module_arena.specs.Lists.{Lists, value_names, function_blocks, name_at}
 use Rattle.module_arena.specs.Mentions.{result_of, block_results, end_operands_of}
 use Rattle.module_arena.specs.Module as m
@@ -33,16 +33,15 @@ use Rattle.module_arena.specs.Module.{LocalName, Bytes}
 use Rattle.module_arena.specs.Names as names
 use Rattle.module_arena.specs.Names.{has_good_names}
 use Rattle.module_arena.specs.Same.{same_local}
-use Rattle.module_arena.specs.Valid.{AllHold, IsValid, module_demands, variable_demands, alias_demands, function_demands, initialiser_fits}
-use Rattle.module_arena.specs.View.{module_of, constants_of, local_view, parameter_view, block_view, body_view}
+use Rattle.module_arena.specs.Valid.{AllHold, IsValid, module_demands, variable_demands, alias_demands, function_demands}
+use Rattle.module_arena.specs.View.{module_of}
 use Rattle.module_arena.specs.WellFormed.{IsWellFormed, global_names, is_good_constant, known_of_variable, known_of_block}
 use Rattle.module_arena.proofs.LocalTypes.{values_distinct}
 use Rattle.module_arena.proofs.Parts.{front_holds, rest_holds}
 use Rattle.record_table.specs.Standing.{Stands, InstructionStands}
-use Rattle.operand_write.specs.Numbered.{indices, constant_of, values_in, labels_in}
-use Rattle.line_write.specs.Ids.{KnowsOperand, KnowsLine, KnowsEnd}
-use Rattle.operand_write.specs.Wide.{IsBody, KnowsValue}
-use Rattle.line_write.specs.Lines.{IsLine, IsEnd, instruction_of, ending_of}
+use Rattle.record_write.specs.Operands.Numbered.{constant_of, values_in, labels_in}
+use Rattle.record_write.specs.Operands.Wide.{IsBody, KnowsValue}
+use Rattle.bitcode_write.specs.Lines.Lines.{instruction_of}
 use Rattle.bitcode_write.specs.Entries.{variable_of, alias_of, function_of, block_of, IsVariable, IsAlias, IsBlock, AreEntries}
 use Rattle.bitcode_write.proofs.Viewed.{blocks_are, body_is, view_is, count_is, labels_viewed, body_known, values_named}
 use Rattle.bitcode_write.proofs.Fitting.{all_front, all_rest, stands}

@@ -1,10 +1,10 @@
 -- The string table of a well-formed module is bytes.
-use Rattle.std.proofs.Common.{◌≡◌, ℕ, ◌+◌, ◌<◌, ◌^◌, Bool, true, false, ◌&&◌, nat_lt, cond, List, [], ◌∷◌, ◌++◌, map, flat_map, filter_map, Option, Some, None, All, refl, subst, arith}
+use Rattle.std.proofs.Common.{◌≡◌, ℕ, ◌+◌, ◌<◌, Bool, true, false, ◌&&◌, nat_lt, cond, List, [], ◌∷◌, ◌++◌, flat_map, filter_map, Option, Some, None, All, refl}
 use Rattle.std.specs.List.{list_all, AllByRecursion, fold}
-use Rattle.std.specs.Option.{option_map_or, option_to_list}
-use Rattle.std.proofs.lemmas.Bool.{and_parts, false≢true, ltb-true}
+use Rattle.std.specs.Option.{option_to_list}
+use Rattle.std.proofs.lemmas.Bool.{and_parts, ltb-true}
 use Rattle.std.proofs.lemmas.List.Elements.{All-from_recursion}
-use Rattle.module_arena.specs.Functions.{blocks, body}
+use Rattle.module_arena.specs.Functions.{body}
 use Rattle.module_arena.specs.Module.{Bytes, LocalName, Named, Numbered, Block, Function, Module}
 use Rattle.module_arena.specs.Names.{are_bytes, is_name, is_local_name, local_names, parameter_names, block_results, has_good_names}
 use Rattle.module_arena.specs.WellFormed.{IsWellFormed, is_good_text, is_good_function, is_good_type, struct_names, global_names}
@@ -12,7 +12,7 @@ use Rattle.module_arena.specs.Functions.{variable_names, alias_names, function_n
 use Rattle.record_table.specs.Fields.{name_in}
 use Rattle.record_table.specs.Records.{producer}
 use Rattle.record_table.specs.StringTable.{has_text, with_text, once_each, joined}
-use Rattle.record_table.specs.Spelling.{results, names_of_body, texts_of_body, texts_of, string_table}
+use Rattle.record_table.specs.Spelling.{names_of_body, texts_of_body, texts_of, string_table}
 use Rattle.bitcode_write.proofs.Fitting.{all_front, all_rest}
 
 -- a text of bytes

@@ -1,5 +1,5 @@
 -- What a function of an arena has in the module that is meant: its blocks, and what its values and blocks are called.
-use Rattle.std.proofs.Common.{◌≡◌, ℕ, ◌+◌, List, [], ◌∷◌, ◌++◌, length, map, flat_map, filter_map, Option, Some, None, All, refl, sym, ap, ◌∙◌, subst, arith}
+use Rattle.std.proofs.Common.{◌≡◌, ◌+◌, List, [], ◌∷◌, ◌++◌, length, map, flat_map, filter_map, Option, Some, None, All, refl, sym, ap, ◌∙◌, subst, arith}
 use Rattle.std.specs.Option.{option_map, option_map_or, option_to_list}
 use Rattle.std.proofs.lemmas.List.{map-append, length-map, length-append}
 use Rattle.std.proofs.lemmas.List.Elements.{All-head}
@@ -19,7 +19,7 @@ use Rattle.module_arena.specs.View.{constants_of, local_view, parameter_view, bl
 use Rattle.module_arena.proofs.ValueNames.{results_of-body}
 use Rattle.record_table.specs.Fields.{label}
 use Rattle.record_table.specs.Spelling.{Line, block_lines, body_lines, body_of}
-use Rattle.operand_write.specs.Numbered.{indices, texts, inside, values_in, labels_in}
+use Rattle.record_write.specs.Operands.Numbered.{indices, texts, inside, values_in}
 use Rattle.bitcode_write.specs.Entries.{function_of, block_of}
 
 names_viewed : (ps : List the_parameter.Parameter) → map (λ (p : the_parameter.Parameter). local_view p.name) ps ≡ map local_view (map (λ (p : the_parameter.Parameter). p.name) ps)

@@ -1,7 +1,7 @@
 -- A whole stream: its three blocks, and its bytes.
-use Rattle.std.proofs.Common.{◌≡◌, ℕ, ◌+◌, ◌/◌, ◌%◌, ◌<◌, List, [], ◌∷◌, length, get_or, refl, sym, ap, ◌∙◌}
+use Rattle.std.proofs.Common.{◌≡◌, ℕ, ◌/◌, ◌%◌, ◌<◌, List, length, get_or, refl, ap, ◌∙◌}
 use Rattle.module_arena.specs.Module.{Module}
-use Rattle.bits.specs.Reading.{bytes_of}
+use Rattle.bit_stream.specs.Bits.Reading.{bytes_of}
 use Rattle.bit_stream.specs.Writer.{Writer, begun, enter}
 use Rattle.bit_tree.specs.Written.{Written, no_more, written, AreBytesOf}
 use Rattle.bit_tree.proofs.Back.{block_whole}

@@ -1,5 +1,5 @@
 -- Says how the code of `write` reads: the entries of a module by the ids of an arena, and what must hold of bodies to be spelled as they are.
-use Rattle.std.specs.Prelude.{◌≡◌, true, ℕ, ◌<◌, List, [], ◌++◌, length, map, All, Option, option_to_list, slice_index_or, bytes_eq, is_some}
+use Rattle.std.specs.Prelude.{◌≡◌, true, ℕ, List, [], map, All, Option, option_to_list, slice_index_or, bytes_eq, is_some}
 use Rattle.std.specs.List.{list_any}
 use Rattle.type_table.specs.declared.ir_type.IrType.{IrType}
 use Rattle.type_table.specs.declared.ir_type.StructBody.{StructBody}
@@ -22,9 +22,9 @@ use Rattle.record_table.specs.Records.{alias_type_parts}
 use Rattle.record_table.specs.Spelling.{Line, by_ids, body_by_ids, type_line}
 use Rattle.record_table.specs.Standing.{Stands, HasCode}
 use Rattle.record_table.specs.TypeRecords.{definition, struct_body}
-use Rattle.operand_write.specs.Numbered.{indices, texts, constant_of}
-use Rattle.line_write.specs.Ids.{KnowsLine, KnowsEnd}
-use Rattle.line_write.specs.Lines.{IsLine, IsEnd}
+use Rattle.record_write.specs.Operands.Numbered.{indices, texts, constant_of}
+use Rattle.bitcode_write.specs.Lines.Ids.{KnowsLine, KnowsEnd}
+use Rattle.bitcode_write.specs.Lines.Lines.{IsLine, IsEnd}
 
 module _ (a : Lists) where
   -- a type by the places of its parts among the types that the module mentions

@@ -1,5 +1,5 @@
 -- Says how the code of `write` reads: what is written from call to call.
-use Rattle.std.specs.Prelude.{◌≡◌, ℕ, ◌<◌, false, List, [], length}
+use Rattle.std.specs.Prelude.{◌≡◌, ◌<◌, false, List, [], length}
 use Rattle.bit_stream.specs.Writer.{Writer}
 use Rattle.bit_tree.specs.Written.{Written, no_more, written}
 use Rattle.record_table.specs.Spelling as spelling

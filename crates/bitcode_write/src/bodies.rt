@@ -7,18 +7,18 @@ ghost use Rattle.module_arena.specs.View.{local_view};
 ghost use Rattle.bit_tree.specs.Written.{no_more};
 ghost use Rattle.record_table.specs.Fields.{label};
 ghost use Rattle.record_table.specs.Spelling.{put, put_block as a_block, put_bodies as the_bodies, block_lines, body_lines, body_of, instruction_line, ending_line};
-ghost use Rattle.operand_write.specs.Numbered.{indices, inside, texts};
-ghost use Rattle.line_write.specs.Ids.{KnowsLine};
-ghost use Rattle.line_write.specs.Lines.{IsLine, instruction_of, ending_of};
+ghost use Rattle.record_write.specs.Operands.Numbered.{indices, inside, texts};
+ghost use Rattle.bitcode_write.specs.Lines.Ids.{KnowsLine};
+ghost use Rattle.bitcode_write.specs.Lines.Lines.{IsLine, instruction_of, ending_of};
 ghost use Rattle.bitcode_write.specs.Put.{IsOpen, Puts, PutsLines};
 ghost use Rattle.bitcode_write.specs.Entries.{function_of, block_of, IsBlock, AreEntries};
 
+use crate::lines::{ending_opcode, instruction_opcode, put_ending, put_instruction};
 use crate::records::RecordSink;
 use ir_tables::Opcode;
-use line_write::{ending_opcode, instruction_opcode, put_ending, put_instruction};
 use module_arena::{Block, Body, Function, FunctionId, Inst, Parameter};
-use operand_write::{Numbering, put_label};
 use record_table::{BLOCK, BODY_BLOCK, FIRST_LINE, PARAMETERS};
+use record_write::operands::{Numbering, put_label};
 use std::alloc::AllocError;
 
 /// The code of the record of a line with that opcode.

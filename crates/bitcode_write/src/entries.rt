@@ -5,16 +5,16 @@ ghost use Rattle.module_arena.specs.Known.{KnowsVariable, KnowsFunction, KnowsAl
 ghost use Rattle.record_table.specs.Fields.{ty};
 ghost use Rattle.record_table.specs.Layout.{counted};
 ghost use Rattle.record_table.specs.Records as records;
-ghost use Rattle.operand_write.specs.Numbered.{indices, texts};
+ghost use Rattle.record_write.specs.Operands.Numbered.{indices, texts};
 ghost use Rattle.bitcode_write.specs.Put.{IsOpen, PutsLines};
 ghost use Rattle.bitcode_write.specs.Entries.{variable_of, function_of, alias_of, alias_type_operands, initialiser_operands, IsVariable, IsAlias};
 
 use crate::records::RecordSink;
 use module_arena::{Alias, AliasType, Function, Parameter, Variable};
-use operand_write::{
+use record_table::{ALIAS, FUNCTION, VARIABLE};
+use record_write::operands::{
     Numbering, put_alignment, put_constant, put_count, put_flag, put_linkage, put_text,
 };
-use record_table::{ALIAS, FUNCTION, VARIABLE};
 use std::alloc::AllocError;
 
 /// Appends whether a variable has an initialiser, and the initialiser.

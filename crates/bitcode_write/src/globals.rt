@@ -4,7 +4,7 @@ ghost use Rattle.std.specs.Option.{option_copied};
 ghost use Rattle.module_arena.specs.View.{module_of};
 ghost use Rattle.record_table.specs.Records as records;
 ghost use Rattle.record_table.specs.Spelling.{head_lines, global_lines, text_line, texts_in};
-ghost use Rattle.operand_write.specs.Numbered.{indices, texts};
+ghost use Rattle.record_write.specs.Operands.Numbered.{indices, texts};
 ghost use Rattle.bitcode_write.specs.Put.{IsOpen, PutsLines};
 ghost use Rattle.bitcode_write.specs.Entries.{variable_of, function_of, alias_of, AreEntries};
 
@@ -12,8 +12,8 @@ use crate::entries::{put_alias, put_function, put_variable};
 use crate::records::RecordSink;
 use ir_base::Text;
 use module_arena::{AliasId, FunctionId, VariableId};
-use operand_write::{Numbering, put_number, put_text};
 use record_table::{LAYOUT, SOURCE, TRIPLE, VERSION};
+use record_write::operands::{Numbering, put_number, put_text};
 use std::alloc::AllocError;
 
 /// The version of the record table that is written.

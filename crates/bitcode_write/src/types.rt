@@ -9,13 +9,13 @@ ghost use Rattle.record_table.specs.Layout.{counted};
 ghost use Rattle.record_table.specs.Mentions.{mentioned};
 ghost use Rattle.record_table.specs.Spelling.{texts_in, type_line, type_lines};
 ghost use Rattle.record_table.specs.TypeRecords.{kind_of as the_kind};
-ghost use Rattle.operand_write.specs.Numbered.{indices};
+ghost use Rattle.record_write.specs.Operands.Numbered.{indices};
 ghost use Rattle.bitcode_write.specs.Put.{IsOpen, PutsLines};
 ghost use Rattle.bitcode_write.specs.Entries.{type_in, type_operands, body_operands, struct_in};
 
 use crate::records::RecordSink;
-use operand_write::{Numbering, put_flag, put_number, put_text};
 use record_table::{DEFINE, TypeKind};
+use record_write::operands::{Numbering, put_flag, put_number, put_text};
 use std::alloc::AllocError;
 use type_table::{IrType, StructBody, StructId, TypeId};
 

@@ -13,8 +13,8 @@ use crate::records::RecordSink;
 use crate::types::put_types;
 use ir_base::Text;
 use module_arena::Checked;
-use operand_write::Numbering;
 use record_table::{MODULE_BLOCK, PRODUCER, PRODUCER_BLOCK, TABLE_BLOCK, TYPES_BLOCK};
+use record_write::operands::Numbering;
 use std::alloc::{AllocError, Global};
 
 /// Writes the block of the module.

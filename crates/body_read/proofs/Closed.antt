@@ -17,19 +17,19 @@ use Rattle.record_table.specs.Bodies as bodies
 use Rattle.record_table.specs.Bodies.{Labels, at_first, body, closed_at, labels}
 use Rattle.record_table.specs.Faults.{Answer, BadRecord, Records}
 use Rattle.record_table.specs.Fields.{Numbering}
-use Rattle.body_labels.specs.Laws.{opened, results_in, results_of}
-use Rattle.body_labels.proofs.Ahead.{all_read, first_ahead}
+use Rattle.record_law.specs.Labels.Laws.{opened, results_in, results_of}
+use Rattle.record_law.proofs.OnLabels.Ahead.{all_read, first_ahead}
 use Rattle.record_read.specs.declared.fault.BitcodeFault.{BitcodeFault}
 use Rattle.record_read.specs.declared.fault.BitcodeFault.TheVariants as fault
 use Rattle.record_read.specs.declared.texts.Texts as the_texts
 use Rattle.record_read.specs.Faults.{Answers}
 use Rattle.record_read.specs.Fields.{texts_of}
-use Rattle.arena_read.specs.declared.counts.LocalCounts.{LocalCounts}
-use Rattle.arena_read.specs.declared.module_reader.ModuleReader.{ModuleReader}
-use Rattle.body_ahead.specs.Ahead.{AreCounts}
-use Rattle.body_records.specs.declared.begun.Begun.{Begun}
-use Rattle.body_records.specs.Begun.{Follows, Has, Means, block_called, due_view}
-use Rattle.body_records.proofs.Parametered.{texts_sound}
+use Rattle.type_read.specs.declared.arena.counts.LocalCounts.{LocalCounts}
+use Rattle.type_read.specs.declared.arena.module_reader.ModuleReader.{ModuleReader}
+use Rattle.body_read.specs.Ahead.Ahead.{AreCounts}
+use Rattle.body_read.specs.declared.blocks.begun.Begun.{Begun}
+use Rattle.body_read.specs.Blocks.Begun.{Follows, Has, Means, block_called, due_view}
+use Rattle.body_read.proofs.OnBlocks.Parametered.{texts_sound}
 use Rattle.body_read.specs.Whole.{Closes, IsClosed, IsRead, IsWhole, KeepsCounts, is_next}
 use Rattle.body_read.proofs.Told.{told_so}
 

@@ -2,3 +2,11 @@ pub mod Told
 pub mod Started
 pub mod Reading
 pub mod Closed
+pub mod OnConstants
+pub mod OnOperands
+pub mod OnEndings
+pub mod OnLines
+pub mod OnCalls
+pub mod OnNames
+pub mod OnAhead
+pub mod OnBlocks

@@ -8,7 +8,7 @@ use Rattle.record_table.specs.Bodies.{Labels, at_first, body, body_from, labels,
 use Rattle.record_table.specs.Faults.{Answer, ◌>>=◌, Records, no_more, a_block, a_record}
 use Rattle.record_table.specs.Fields.{Numbering}
 use Rattle.record_table.specs.Walk.{going}
-use Rattle.body_labels.proofs.Ahead.{IsAhead, first_ahead, record_step, value_ahead}
+use Rattle.record_law.proofs.OnLabels.Ahead.{IsAhead, first_ahead, record_step, value_ahead}
 use Rattle.record_read.specs.declared.entry.NextEntry.{NextEntry}
 use Rattle.record_read.specs.declared.entry.NextEntry.TheVariants.{Block, Record, End}
 use Rattle.record_read.specs.declared.fault.BitcodeFault.{BitcodeFault}
@@ -17,14 +17,14 @@ use Rattle.record_read.specs.Entries.{IsBefore, IsNearer, Gives}
 use Rattle.record_read.specs.Faults.{Answers, IsMisplaced}
 use Rattle.record_read.specs.Fields.{texts_of}
 use Rattle.record_read.specs.Reader.{Reader}
-use Rattle.arena_read.specs.declared.module_reader.ModuleReader.{ModuleReader}
-use Rattle.arena_read.specs.Numbered.{Numbers, IsDeclared}
-use Rattle.arena_read.proofs.Kept.{grows_self, grows_two}
-use Rattle.operand_read.specs.Found.{Always}
-use Rattle.body_ahead.specs.Ahead.{AreCounts}
-use Rattle.body_records.specs.declared.begun.Begun.{Begun}
-use Rattle.body_records.specs.Begun.{Follows, Has, IsBody, Means, Passes, StartsEmpty}
-use Rattle.body_records.proofs.Parametered.{texts_sound}
+use Rattle.type_read.specs.declared.arena.module_reader.ModuleReader.{ModuleReader}
+use Rattle.type_read.specs.Arena.Numbered.{Numbers, IsDeclared}
+use Rattle.type_read.proofs.OnArena.Kept.{grows_self, grows_two}
+use Rattle.body_read.specs.Operands.Found.{Always}
+use Rattle.body_read.specs.Ahead.Ahead.{AreCounts}
+use Rattle.body_read.specs.declared.blocks.begun.Begun.{Begun}
+use Rattle.body_read.specs.Blocks.Begun.{Follows, Has, IsBody, Means, Passes, StartsEmpty}
+use Rattle.body_read.proofs.OnBlocks.Parametered.{texts_sound}
 use Rattle.body_read.specs.Whole.{AreCounted, IsRead, IsRefused, KeepsCounts, NumbersOutside, numbering_in}
 use Rattle.body_read.proofs.Started.{declared_on, empty_follows, empty_has, empty_means, numbers_on}
 use Rattle.body_read.proofs.Told.{misplaced_so, step_refused}

@@ -9,17 +9,17 @@ use Rattle.module_arena.specs.Mentions.{block_results, result_of}
 use Rattle.module_arena.specs.View.{block_view, constants_of, inst_view, local_view}
 use Rattle.record_table.specs.Bodies.{at_first}
 use Rattle.record_table.specs.Fields.{Numbering}
-use Rattle.arena_read.specs.declared.counts.GlobalCounts.{GlobalCounts}
-use Rattle.arena_read.specs.declared.counts.LocalCounts.{LocalCounts}
-use Rattle.arena_read.specs.declared.module_reader.ModuleReader.{ModuleReader}
-use Rattle.arena_read.specs.Growing.{Grows}
-use Rattle.arena_read.specs.Kept.{Goes}
-use Rattle.arena_read.specs.Numbered.{Numbers, IsDeclared, IsGlobal, global_count, global_of}
-use Rattle.arena_read.proofs.Steps.{still_declared, still_numbers}
-use Rattle.line_read.specs.Kept.{HasInst}
-use Rattle.body_names.specs.Called.{beyond_table}
-use Rattle.body_records.specs.declared.begun.Begun.{Begun}
-use Rattle.body_records.specs.Begun.{Follows, Has, Means, StartsEmpty, block_called, due_view}
+use Rattle.type_read.specs.declared.arena.counts.GlobalCounts.{GlobalCounts}
+use Rattle.type_read.specs.declared.arena.counts.LocalCounts.{LocalCounts}
+use Rattle.type_read.specs.declared.arena.module_reader.ModuleReader.{ModuleReader}
+use Rattle.type_read.specs.Arena.Growing.{Grows}
+use Rattle.type_read.specs.Arena.Kept.{Goes}
+use Rattle.type_read.specs.Arena.Numbered.{Numbers, IsDeclared, IsGlobal, global_count, global_of}
+use Rattle.type_read.proofs.OnArena.Steps.{still_declared, still_numbers}
+use Rattle.body_read.specs.Lines.Kept.{HasInst}
+use Rattle.body_read.specs.Names.Called.{beyond_table}
+use Rattle.body_read.specs.declared.blocks.begun.Begun.{Begun}
+use Rattle.body_read.specs.Blocks.Begun.{Follows, Has, Means, StartsEmpty, block_called, due_view}
 
 -- ---- what indices stand for
 

@@ -1,1 +1,9 @@
 pub mod Whole
+pub mod Constants
+pub mod Operands
+pub mod Endings
+pub mod Lines
+pub mod Calls
+pub mod Names
+pub mod Ahead
+pub mod Blocks

@@ -18,12 +18,12 @@ use Rattle.record_read.specs.declared.fault.BitcodeFault.TheVariants as fault
 use Rattle.record_read.specs.declared.texts.Texts as the_texts
 use Rattle.record_read.specs.Faults.{Answers, IsFault}
 use Rattle.record_read.specs.Fields.{texts_of}
-use Rattle.arena_read.specs.declared.module_reader.ModuleReader.{ModuleReader}
-use Rattle.arena_read.specs.Growing.{Grows}
-use Rattle.arena_read.specs.Numbered.{Numbers, IsDeclared}
-use Rattle.operand_read.specs.Found.{Always}
-use Rattle.body_records.specs.declared.begun.Begun.{Begun}
-use Rattle.body_records.specs.Begun.{Follows, Has, IsBody, IsCounted, Means, due_view}
+use Rattle.type_read.specs.declared.arena.module_reader.ModuleReader.{ModuleReader}
+use Rattle.type_read.specs.Arena.Growing.{Grows}
+use Rattle.type_read.specs.Arena.Numbered.{Numbers, IsDeclared}
+use Rattle.body_read.specs.Operands.Found.{Always}
+use Rattle.body_read.specs.declared.blocks.begun.Begun.{Begun}
+use Rattle.body_read.specs.Blocks.Begun.{Follows, Has, IsBody, IsCounted, Means, due_view}
 
 -- what indices stand for outside the body: with so many values and blocks as were counted they stand for these inside
 abbrev pub NumbersOutside : ModuleReader → Numbering → Type 0

@@ -7,16 +7,16 @@ ghost use Rattle.record_table.specs.Fields.{Numbering};
 ghost use Rattle.record_read.specs.Entries.{IsBefore, IsInBlock};
 ghost use Rattle.record_read.specs.Faults.{Answers};
 ghost use Rattle.record_read.specs.Fields.{texts_of};
-ghost use Rattle.body_ahead.specs.Ahead.{AreCounts};
-ghost use Rattle.body_records.specs.Begun.{StartsEmpty, due_view};
+ghost use Rattle.body_read.specs.Ahead.Ahead.{AreCounts};
+ghost use Rattle.body_read.specs.Blocks.Begun.{StartsEmpty, due_view};
 ghost use Rattle.body_read.specs.Whole.{Closes, IsWhole, KeepsCounts, NumbersOutside, ReadsRecords, is_next};
 
+use crate::blocks::{Begun, BodyDue};
 use crate::records::read_record;
-use arena_read::{LocalCounts, ModuleReader};
-use body_records::{Begun, BodyDue};
 use module_arena::Body;
 use record_read::{BitcodeFault, NextEntry, Texts, misplaced};
 use record_table::BODY_BLOCK;
+use type_read::arena::{LocalCounts, ModuleReader};
 
 /// What holds of counts: 32 bits hold them.
 fn fit(counts: LocalCounts)

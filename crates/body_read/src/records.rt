@@ -1,16 +1,16 @@
 //! A record of a body, by its code.
 ghost use Rattle.std.specs.Prelude.{◌≡◌, ◌<◌, ℕ, true, false, OnOk};
 ghost use Rattle.record_table.specs.Fields.{Numbering};
-ghost use Rattle.body_records.specs.Begun.{Passes};
+ghost use Rattle.body_read.specs.Blocks.Begun.{Passes};
 ghost use Rattle.body_read.specs.Whole.{ReadsOpcode, ReadsRecord};
 
-use arena_read::ModuleReader;
-use body_ahead::opcode_of;
-use body_records::{Begun, read_block, read_end, read_line, read_parameters};
-use ending_read::is_end;
+use crate::ahead::opcode_of;
+use crate::blocks::{Begun, read_block, read_end, read_line, read_parameters};
+use crate::endings::is_end;
 use ir_tables::Opcode;
 use record_read::{BitcodeFault, Texts};
 use record_table::{BLOCK, BODY_BLOCK, PARAMETERS};
+use type_read::arena::ModuleReader;
 
 /// Reads a line of that opcode.
 fn read_opcode(

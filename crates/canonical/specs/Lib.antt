@@ -5,3 +5,7 @@ pub mod Constants
 pub mod Operations
 pub mod Instructions
 pub mod Canonical
+pub mod Items
+pub mod Law
+pub mod Modules
+pub mod Reads

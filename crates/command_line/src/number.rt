@@ -2,7 +2,7 @@
 ghost use Rattle.std.specs.Prelude.{◌≡◌};
 ghost use Rattle.command_line.specs.Numbers.{number_of, leads_with_zero};
 
-/// The greatest number of steps that may be asked for: the STEP_LIMIT of `run_loop`, on which this crate does not stand. `tool_cli` is
+/// The greatest number of steps that may be asked for: the STEP_LIMIT of `run_actions::loops`, on which this crate does not stand. `tool_cli` is
 /// proved only where it is no more than that.
 pub const LARGEST_NUMBER: u64 = 4_294_967_296;
 

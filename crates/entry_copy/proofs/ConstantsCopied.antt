@@ -24,7 +24,7 @@ use Rattle.module_arena.specs.Renamed.{renamed_tree, renamed_constant, renamed_b
 use Rattle.module_arena.specs.UsedNames.{names_in_constant, names_in_block}
 use Rattle.module_arena.specs.View.{type_at, constant_at, constants_of}
 use Rattle.module_arena.proofs.ConstantsTold.{const_known, constant_here}
-use Rattle.type_build.specs.Stands.{IsConstant, Grows}
+use Rattle.item_build.specs.Types.Stands.{IsConstant, Grows}
 use Rattle.entry_copy.specs.Copies.{CopiesTypes, CopiesConstants, Copies, HasNew, IsBody, blocks_of}
 use Rattle.entry_copy.specs.Moved.{address_of, moved_constant, moved_body}
 use Rattle.entry_copy.specs.Tables.{Tables, with_constants, new_type, new_constant, new_global}

@@ -3,3 +3,4 @@ mod Keeping
 pub mod TypesCopied
 pub mod ConstantsCopied
 pub mod Starting
+pub mod OnStructs

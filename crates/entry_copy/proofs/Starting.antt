@@ -17,8 +17,8 @@ use Rattle.module_arena.specs.Module.{Bytes, Constant}
 use Rattle.module_arena.specs.Renamed.{renamed_tree, own}
 use Rattle.module_arena.specs.View.{type_at, constant_at, constants_of, grow}
 use Rattle.module_arena.proofs.Renamed.{tree_stays}
-use Rattle.type_build.specs.Stands.{IsType, IsConstant}
-use Rattle.type_build.proofs.Declaring.{all_mapped}
+use Rattle.item_build.specs.Types.Stands.{IsType, IsConstant}
+use Rattle.item_build.proofs.OnTypes.Declaring.{all_mapped}
 use Rattle.entry_copy.specs.Copies.{CopiesTypes, CopiesConstants, Copies, AllFit}
 use Rattle.entry_copy.specs.Tables.{Tables, tables_of, new_struct, new_global}
 

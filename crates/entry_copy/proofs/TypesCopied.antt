@@ -22,9 +22,9 @@ use Rattle.module_arena.specs.Lists.{Lists}
 use Rattle.module_arena.specs.Module.{Bytes}
 use Rattle.module_arena.specs.Renamed.{renamed_tree, renamed_body, renamed_parameter, renamed_alias_type}
 use Rattle.module_arena.specs.View.{type_at, parameter_view, alias_type_view}
-use Rattle.type_build.specs.Parameters.{AreParameters}
-use Rattle.type_build.specs.Stands.{IsType, Grows}
-use Rattle.type_build.proofs.Growing.{type_found}
+use Rattle.item_build.specs.Types.Parameters.{AreParameters}
+use Rattle.item_build.specs.Types.Stands.{IsType, Grows}
+use Rattle.item_build.proofs.OnTypes.Growing.{type_found}
 use Rattle.entry_copy.specs.Copies.{CopiesTypes, AllFit, IsStructBody, IsAliasType}
 use Rattle.entry_copy.specs.Moved.{moved_type, moved_struct_body, moved_parameter, moved_alias_type}
 use Rattle.entry_copy.specs.Tables.{Tables, with_types, with_constants, new_struct, new_type}

@@ -15,7 +15,7 @@ use Rattle.module_arena.specs.Module.{Bytes, LocalName, Block, AliasType}
 use Rattle.module_arena.specs.Renamed.{renamed_tree, renamed_constant}
 use Rattle.module_arena.specs.UsedNames.{names_in_constant}
 use Rattle.module_arena.specs.View.{type_at, constant_at, constants_of, alias_type_view, body_view}
-use Rattle.type_build.specs.Stands.{IsType, IsConstant}
+use Rattle.item_build.specs.Types.Stands.{IsType, IsConstant}
 use Rattle.entry_copy.specs.Tables.{Tables, new_struct, new_type, new_constant, new_global}
 
 -- The types that were copied from a to b are the same types, where structs have other names.

@@ -2,7 +2,7 @@
 use Rattle.std.specs.Prelude.{ℕ, Option, Some, None}
 use Rattle.module_arena.specs.Lists.{Lists}
 use Rattle.module_arena.specs.Module.{Constant}
-use Rattle.type_build.specs.Stands.{IsConstant}
+use Rattle.item_build.specs.Types.Stands.{IsConstant}
 
 -- the id, where there is one, is that of the initialiser
 abbrev pub IsInitialiser : Lists → Option Constant → Option ℕ → Type 0

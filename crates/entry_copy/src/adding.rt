@@ -3,11 +3,11 @@ ghost use Rattle.std.specs.Prelude.{◌≡◌, length, None, IfOk, OnOk};
 ghost use Rattle.module_arena.specs.Changes.{with_variable, with_alias, with_function, variable_in, alias_in, function_in, more_variables, more_aliases, more_functions};
 ghost use Rattle.module_arena.specs.Known.{counts, KnowsVariable, KnowsAlias, KnowsFunction};
 ghost use Rattle.module_arena.specs.View.{module_of};
-ghost use Rattle.type_build.specs.Declarations.{IsFree, AreFew, one_variable_more, one_alias_more, one_function_more};
+ghost use Rattle.item_build.specs.Types.Declarations.{IsFree, AreFew, one_variable_more, one_alias_more, one_function_more};
 
+use item_build::types::{Builder, entry_out_of_memory};
 use module_arena::{Alias, Function, GlobalId, Variable};
 use std::alloc::AllocError;
-use type_build::{Builder, entry_out_of_memory};
 
 /// Adds a variable without an initialiser, and gives its id.
 pub fn add_variable(into: &mut Builder, variable: Variable) -> Result<GlobalId, AllocError>

@@ -1,16 +1,16 @@
 //! Constants.
 ghost use Rattle.std.specs.Prelude.{◌≡◌, ◌+◌, ◌<◌, length, IfOk, OnOk};
 ghost use Rattle.module_arena.specs.Module.{Bytes};
-ghost use Rattle.type_build.specs.Stands.{Grows};
+ghost use Rattle.item_build.specs.Types.Stands.{Grows};
 ghost use Rattle.entry_copy.specs.Copies.{CopiesTypes, CopiesConstants, Copies};
 ghost use Rattle.entry_copy.specs.Moved.{moved_typed, moved_constant, moved_address, moved_pair};
 ghost use Rattle.entry_copy.specs.Tables.{with_constants};
 
 use crate::Copier;
 use crate::moved::{Moved, moved_list};
+use item_build::types::Builder;
 use module_arena::{Arena, Boxed, Const, ConstAddress, ConstId, ConstPair, TypedConst};
 use std::alloc::{AllocError, Global};
-use type_build::Builder;
 
 /// The constant and its type by their new ids.
 fn moved_typed(copier: &Copier, typed: TypedConst) -> TypedConst

@@ -1,9 +1,14 @@
 //! Types, constants and bodies of one arena, made again in another, where structs and globals have other ids and names.
 //!
-//! It stands on `module_arena` and the builder of `type_build`. It promises that each copy is the old one under the other
+//! It stands on `module_arena` and the builder of `item_build::types`. It promises that each copy is the old one under the other
 //! names, that an entry is added as it is given where its name is free and there is room, that nothing else of the new module
 //! changes, and that only memory may be wanting. Definitions: `specs/Tables`, `specs/Copies`, `specs/Moved`, `Renamed` of
-//! `module_arena`, and `Declarations` of `type_build`.
+//! `module_arena`, and `Declarations` of `item_build::types`.
+//!
+//! Its modules:
+//!
+//! - `structs`: The named structs of an arena, made again in an empty one under the same ids and
+//!   names.
 //!
 //! ```
 //! let mut copier = Copier::new(alloc, Vec::new(alloc)); // each struct keeps its id
@@ -25,6 +30,7 @@ mod initialisers;
 mod instructions;
 mod moved;
 mod parameters;
+pub mod structs;
 mod types;
 mod values;
 

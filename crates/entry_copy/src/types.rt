@@ -8,18 +8,18 @@ ghost use Rattle.module_arena.specs.Lists.{Lists};
 ghost use Rattle.module_arena.specs.Module.{Bytes};
 ghost use Rattle.module_arena.specs.Renamed.{renamed_body, renamed_parameter, renamed_alias_type};
 ghost use Rattle.module_arena.specs.View.{parameter_view, alias_type_view};
-ghost use Rattle.type_build.specs.Fitting.{AreWithin};
-ghost use Rattle.type_build.specs.Parameters.{AreParameters};
-ghost use Rattle.type_build.specs.Stands.{Grows};
+ghost use Rattle.item_build.specs.Types.Fitting.{AreWithin};
+ghost use Rattle.item_build.specs.Types.Parameters.{AreParameters};
+ghost use Rattle.item_build.specs.Types.Stands.{Grows};
 ghost use Rattle.entry_copy.specs.Copies.{CopiesTypes, AllFit, IsAliasType, IsStructBody};
 ghost use Rattle.entry_copy.specs.Moved.{moved_type, moved_struct_body, moved_parameter, moved_alias_type, moved_signature};
 ghost use Rattle.entry_copy.specs.Tables.{with_types, new_type};
 
 use crate::Copier;
 use crate::moved::{Moved, moved_list};
+use item_build::types::Builder;
 use module_arena::{AliasType, Arena, Parameter, ParameterList, Signature, copied_name};
 use std::alloc::{AllocError, Global};
-use type_build::Builder;
 use type_table::{IrType, StructBody, TypeId};
 
 impl Moved for TypeId {

@@ -1,7 +1,6 @@
-pub mod Selected
-pub mod Extracted
+pub mod Naming
+pub mod Fates
+pub mod Declaring
+pub mod Part
 pub mod Entries
-pub mod Calls
-pub mod Closure
-pub mod Flags
-pub mod Faults
+pub mod Defining

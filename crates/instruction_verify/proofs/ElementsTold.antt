@@ -5,7 +5,7 @@ use Rattle.std.proofs.lemmas.List.Folds.{list_all-map}
 use Rattle.std.specs.List.{list_all}
 use Rattle.std.proofs.lemmas.Option.{slice_get-get_or}
 use Rattle.type_table.specs.Tree.{Tree, Structs}
-use Rattle.constant_verify.proofs.LeadsTold.{index_fails, index_leads, left_is}
+use Rattle.entry_verify.proofs.OnConstants.LeadsTold.{index_fails, index_leads, left_is}
 use Rattle.module_arena.specs.Constants.{Index, indexed, indices_fit, leads_to_part}
 use Rattle.module_arena.specs.Lists.{Lists}
 use Rattle.module_arena.specs.Module.{LocalName}

@@ -10,3 +10,5 @@ pub mod PartsTold
 pub mod Split
 pub mod SwitchTold
 pub mod Within
+pub mod OnLast
+pub mod OnUses

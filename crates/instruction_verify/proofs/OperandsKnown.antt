@@ -3,8 +3,8 @@ use Rattle.std.proofs.Common.{◌≡◌, ℕ, ◌+◌, ◌<◌, Bool, true, ◌&
 use Rattle.std.proofs.lemmas.List.Folds.{list_all-append}
 use Rattle.std.proofs.lemmas.Option.{slice_get-get_or}
 use Rattle.type_table.specs.Types.{tree, structs}
-use Rattle.constant_verify.proofs.ConstantsKnown.{own_structs, and_true}
-use Rattle.constant_verify.proofs.WholeTold.{mapped_next}
+use Rattle.entry_verify.proofs.OnConstants.ConstantsKnown.{own_structs, and_true}
+use Rattle.entry_verify.proofs.OnConstants.WholeTold.{mapped_next}
 use Rattle.module_arena.specs.Constants.{fits}
 use Rattle.module_arena.specs.EntryRules.{constant_types_suit, takes_no_intrinsic}
 use Rattle.module_arena.specs.InstructionRules.{value_takes_no_intrinsic, value_types_suit}

@@ -7,7 +7,7 @@ use Rattle.std.proofs.lemmas.Bool.Decides.{Decides-ltb}
 use Rattle.std.proofs.lemmas.Option.{none-some, same_Some, slice_get-get_or}
 use Rattle.type_table.specs.Tree.{Tree, int, ptr, void, array, struct, named, Structs}
 use Rattle.module_arena.specs.TypeTests.{opened, part_at, part_type}
-use Rattle.type_verify.specs.Opened.{has_no_parts}
+use Rattle.entry_verify.specs.Types.Opened.{has_no_parts}
 
 pub element_part : (u t : Tree) (n k : ℕ) → u ≡ array n t → k < n → Some t ≡ part_type u k
 element_part u t n k e lt = sym (ap (λ v. part_type v k) e ∙ ap (λ b. cond b (Some t) None) ((Decides-ltb k n).1 lt))

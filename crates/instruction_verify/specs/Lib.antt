@@ -1,2 +1,4 @@
 pub mod ArenaOperands
 pub mod Parts
+pub mod Last
+pub mod Uses

@@ -10,8 +10,8 @@ ghost use Rattle.module_arena.specs.View.{constant_at, constants_of, module_of};
 ghost use Rattle.instruction_verify.specs.ArenaOperands.{HasConstant, instruction_in, value_in};
 ghost use Rattle.instruction_verify.specs.Parts.{is_address};
 
-use constant_verify::Judge;
-use entry_rules::alignment_suits;
+use entry_verify::constants::Judge;
+use entry_verify::entries::alignment_suits;
 use module_arena::{Const, ConstId, Inst, Value};
 
 /// Whether the constant is the address of an entry.

@@ -9,10 +9,10 @@ ghost use Rattle.module_arena.specs.TypeTests.{is_integer, opened};
 ghost use Rattle.module_arena.specs.ValueRules as rules;
 ghost use Rattle.instruction_verify.specs.ArenaOperands.{HasConstant, HasInst, HasOperand, index_in, instruction_in, value_in};
 
-use constant_verify::{Judge, written_number};
+use entry_verify::constants::{Judge, written_number};
+use entry_verify::types::TypeJudge;
 use module_arena::{Inst, Operand, Value};
 use type_table::TypeId;
-use type_verify::TypeJudge;
 
 /// The number that a value writes.
 fn number_in(judge: &Judge<'_>, value: Value) -> Option<u128>

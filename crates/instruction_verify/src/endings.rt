@@ -11,17 +11,17 @@ ghost use Rattle.module_arena.specs.TypeTests.{is_integer};
 ghost use Rattle.module_arena.specs.ValueRules as rules;
 ghost use Rattle.module_arena.specs.Constants.{written_number};
 ghost use Rattle.module_arena.specs.View.{constant_at, constants_of, module_of};
-ghost use Rattle.type_verify.specs.Judged.{Judged};
+ghost use Rattle.entry_verify.specs.Types.Judged.{Judged};
 ghost use Rattle.instruction_verify.specs.ArenaOperands.{HasCase, HasOperand, ending_in};
 ghost use Rattle.instruction_verify.specs.Parts.{ending_type_demands, is_case_at, numbers_at};
 
 use crate::operands::ending_fact;
-use constant_verify::{Judge, written_number};
+use entry_verify::constants::{Judge, written_number};
+use entry_verify::types::{VerifyFault, asked, judge_instruction};
 use indexmap::IndexSet;
 use module_arena::{Case, Ending, Function};
 use std::alloc::{AllocError, Global};
 use type_table::TypeId;
-use type_verify::{VerifyFault, asked, judge_instruction};
 
 /// The number of a case, where it is one.
 fn number_of(judge: &Judge<'_>, case: &Case) -> Option<u128>

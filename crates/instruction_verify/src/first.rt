@@ -3,18 +3,18 @@ ghost use Rattle.std.specs.Prelude.{List, All};
 ghost use Rattle.module_arena.specs.Mentions.{end_operands_of};
 ghost use Rattle.module_arena.specs.Module.{LocalName};
 ghost use Rattle.module_arena.specs.View.{module_of};
-ghost use Rattle.type_verify.specs.Judged.{Judged};
+ghost use Rattle.entry_verify.specs.Types.Judged.{Judged};
 ghost use Rattle.instruction_verify.specs.ArenaOperands.{HasInst, HasOperand, ending_in, instruction_in};
 ghost use Rattle.instruction_verify.specs.Parts.{ending_first_demands, first_demands};
 
 use crate::callees::{callee_takes_no_intrinsic, callee_types_suit, instruction_alignment_suits};
 use crate::operands::{ending_fact, instruction_fact};
 use crate::written_types::own_types_suit;
-use constant_verify::Judge;
+use entry_verify::constants::Judge;
+use entry_verify::types::{VerifyFault, asked, judge_instruction};
 use ir_base::Name;
 use module_arena::{Ending, Inst};
 use std::alloc::Global;
-use type_verify::{VerifyFault, asked, judge_instruction};
 
 /// What an instruction is asked before the rules on phis and paths: a fault of the first of the rules 5 to 7 that does not hold, at
 /// the instruction by its number in the function of that name.

@@ -7,7 +7,7 @@ ghost use Rattle.module_arena.specs.Operations.{ending_operands, operands};
 ghost use Rattle.module_arena.specs.View.{module_of};
 ghost use Rattle.instruction_verify.specs.ArenaOperands.{HasCase, HasConstant, HasInst, HasOperand, all_pass, both_operand_facts, case_operand_in, ending_in, instruction_in, operand_fact, operand_in, operands_fact, phi_operand_in};
 
-use constant_verify::Judge;
+use entry_verify::constants::Judge;
 use module_arena::{Case, Ending, Incoming, Inst, Operand, Value};
 use std::slice;
 use type_table::TypeId;

@@ -17,7 +17,7 @@ use crate::endings::plain_ending_suits;
 use crate::operands::{ending_fact, instruction_fact};
 use crate::rules::{address_suits, arithmetic_suits, cast_suits, part_suits};
 use crate::written_types::own_types_suit;
-use constant_verify::Judge;
+use entry_verify::constants::Judge;
 use module_arena::{Ending, Function, Inst};
 
 /// Whether a look tells that the rules 5 to 7 and 12 to 16 hold of an instruction, and that the constants among its operands fit the

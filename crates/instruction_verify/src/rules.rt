@@ -12,11 +12,11 @@ ghost use Rattle.module_arena.specs.ValueRules as rules;
 ghost use Rattle.instruction_verify.specs.ArenaOperands.{instruction_in};
 
 use crate::written_types::part_at;
-use constant_verify::is_cast_between;
+use entry_verify::constants::is_cast_between;
+use entry_verify::types::TypeJudge;
 use ir_tables::Flag;
 use module_arena::{Inst, Operand};
 use type_table::TypeId;
-use type_verify::TypeJudge;
 
 /// Binary operands are integers; those of `icmp` are integers or, without `samesign`, `ptr`; a `select` has the condition i1 and arms
 /// of one type.

@@ -2,17 +2,17 @@
 ghost use Rattle.std.specs.Prelude.{List};
 ghost use Rattle.module_arena.specs.Module.{LocalName};
 ghost use Rattle.module_arena.specs.View.{module_of};
-ghost use Rattle.type_verify.specs.Judged.{Judged};
+ghost use Rattle.entry_verify.specs.Types.Judged.{Judged};
 ghost use Rattle.instruction_verify.specs.ArenaOperands.{HasInst, instruction_in};
 ghost use Rattle.instruction_verify.specs.Parts.{type_demands};
 
 use crate::elements::element_address_suits;
 use crate::rules::{address_suits, arithmetic_suits, cast_suits, part_suits};
-use constant_verify::Judge;
+use entry_verify::constants::Judge;
+use entry_verify::types::{VerifyFault, asked, judge_instruction};
 use ir_base::Name;
 use module_arena::Inst;
 use std::alloc::Global;
-use type_verify::{VerifyFault, asked, judge_instruction};
 
 /// What an instruction is asked of the types that it works on: a fault of the first of the rules 12 to 16 that does not hold, at the
 /// instruction by its number in the function of that name.

@@ -12,11 +12,11 @@ ghost use Rattle.module_arena.specs.TypeTests.{is_passable, opened, part_at, par
 ghost use Rattle.instruction_verify.specs.ArenaOperands.{instruction_in};
 ghost use Rattle.instruction_verify.specs.Parts.{own_types_suit};
 
-use constant_verify::Judge;
-use entry_rules::{are_passable, return_suits};
+use entry_verify::constants::Judge;
+use entry_verify::entries::{are_passable, return_suits};
+use entry_verify::types::{OpenedType, TypeJudge};
 use module_arena::{Inst, Signature};
 use type_table::TypeId;
-use type_verify::{OpenedType, TypeJudge};
 
 /// The field with that number, where there is one.
 fn field_at(fields: &[TypeId], index: u32) -> Option<TypeId>

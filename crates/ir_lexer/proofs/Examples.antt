@@ -5,7 +5,7 @@ use Rattle.ir_lexer.specs.Class.{byte_class}
 use Rattle.ir_lexer.specs.Form.{run}
 use Rattle.ir_lexer.specs.Quoted.{digit_value, unescaped, decode}
 use Rattle.ir_lexer.specs.Front.{next_token}
-use Rattle.ir_lexer.specs.Table.{Word, Digits, Label, Quoted, IsToken}
+use Rattle.ir_lexer.specs.Table.{Word, Label, Quoted}
 use Rattle.ir_lexer.specs.Pieces.{can_follow, AreSound, Space, Line, Indented}
 use Rattle.ir_lexer.specs.declared.token.TokenKind.TheVariants as k
 

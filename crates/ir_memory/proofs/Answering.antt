@@ -6,8 +6,8 @@ use Rattle.ir_tables.specs.declared.undefined_kind.UndefinedKind.{UndefinedKind}
 use Rattle.ir_tables.specs.declared.undefined_kind.UndefinedKind.TheVariants.{Overlap}
 use Rattle.ir_eval.specs.declared.value.Pointer.{Pointer}
 use Rattle.ir_eval.specs.declared.value.Scalar.{Scalar}
-use Rattle.pointer_pieces.specs.declared.piece.PointerPiece.{PointerPiece}
-use Rattle.masked_bytes.proofs.Placed.{length-placed}
+use Rattle.ir_memory.specs.declared.pointers.piece.PointerPiece.{PointerPiece}
+use Rattle.ir_memory.proofs.OnMasked.Placed.{length-placed}
 use Rattle.ir_memory.specs.declared.fault.MemoryFault.{MemoryFault}
 use Rattle.ir_memory.specs.declared.fault.MemoryFault.TheVariants.{Undefined, Memory}
 use Rattle.ir_memory.specs.declared.leaf.Leaf.{Leaf}

@@ -3,8 +3,8 @@ use Rattle.std.proofs.Common.{◌≡◌, ℕ, zero, suc, ◌+◌, ◌-◌, ◌*�
 use Rattle.std.proofs.Math.Nat.{pow-le-pow_right, div-eq_of_lt, mod-eq_of_lt}
 use Rattle.ir_memory.specs.declared.cell.Cell.{Cell}
 use Rattle.ir_eval.specs.declared.value.Pointer.{Pointer}
-use Rattle.masked_bytes.specs.Masked.{joined}
-use Rattle.masked_bytes.proofs.Numbers.{shift}
+use Rattle.ir_memory.specs.Masked.Masked.{joined}
+use Rattle.ir_memory.proofs.OnMasked.Numbers.{shift}
 use Rattle.ir_memory.specs.Cell.{byte_at, byte_of, number_of, is_piece, are_pieces}
 
 pub byte_high : (number place : ℕ) → number < 2 ^ 128 → 16 ≤ place → 0 ≡ byte_at number place

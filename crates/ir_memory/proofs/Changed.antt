@@ -3,9 +3,9 @@ use Rattle.std.proofs.Common.{◌≡◌, ℕ, zero, suc, ◌+◌, ◌-◌, ◌<�
 use Rattle.std.specs.Prelude.{◌≢◌, Result, Ok, Err, OnErr}
 use Rattle.std.proofs.lemmas.Bool.{cases_lt, cases_eq}
 use Rattle.std.proofs.lemmas.List.{length-map, length-set, length-append, length-drop, length-take, length-replicate, get_or_default, get_or_append_left, get_or-append_right, get_or-map, get_or-set_same, get_or-set_other, same_lists}
-use Rattle.pointer_pieces.specs.declared.piece.PointerPiece.{PointerPiece}
-use Rattle.masked_bytes.specs.Masked.{mapped_with_places, put}
-use Rattle.masked_bytes.proofs.Placed.{placed-same, placed-put, placed-map}
+use Rattle.ir_memory.specs.declared.pointers.piece.PointerPiece.{PointerPiece}
+use Rattle.ir_memory.specs.Masked.Masked.{mapped_with_places, put}
+use Rattle.ir_memory.proofs.OnMasked.Placed.{placed-same, placed-put, placed-map}
 use Rattle.ir_memory.specs.declared.cell.Cell.{Cell}
 use Rattle.ir_memory.specs.declared.cell.Cell.TheVariants as cell
 use Rattle.ir_memory.specs.declared.kind.BlockKind.{BlockKind}

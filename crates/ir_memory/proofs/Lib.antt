@@ -13,3 +13,5 @@ mod Numbers
 mod Paged
 mod Plain
 mod PlainBytes
+pub mod OnMasked
+pub mod OnPointers

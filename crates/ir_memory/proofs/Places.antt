@@ -5,7 +5,7 @@ use Rattle.std.proofs.lemmas.Bool.{and_parts}
 use Rattle.std.proofs.lemmas.List.{get_or_default}
 use Rattle.ir_eval.specs.declared.value.Pointer.{Pointer}
 use Rattle.ir_eval.specs.declared.value.Scalar.TheVariants.{Ptr}
-use Rattle.pointer_pieces.specs.declared.piece.PointerPiece.{PointerPiece}
+use Rattle.ir_memory.specs.declared.pointers.piece.PointerPiece.{PointerPiece}
 use Rattle.ir_memory.specs.declared.kind.BlockKind.{BlockKind}
 use Rattle.ir_memory.specs.declared.kept.KeptBlock.{KeptBlock}
 use Rattle.ir_memory.specs.MemoryBlock.{holds, starts, is_constant, same_kind}

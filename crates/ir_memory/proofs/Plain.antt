@@ -9,9 +9,9 @@ use Rattle.std.proofs.lemmas.List.Edits.{length-between}
 use Rattle.std.proofs.lemmas.List.Elements.{All-map}
 use Rattle.ir_eval.specs.declared.value.Pointer.{Pointer}
 use Rattle.ir_eval.specs.declared.value.Scalar.TheVariants as scalar
-use Rattle.pointer_pieces.specs.declared.piece.PointerPiece.{PointerPiece}
-use Rattle.masked_bytes.specs.Masked as masked
-use Rattle.masked_bytes.proofs.Numbers.{shift}
+use Rattle.ir_memory.specs.declared.pointers.piece.PointerPiece.{PointerPiece}
+use Rattle.ir_memory.specs.Masked.Masked as masked
+use Rattle.ir_memory.proofs.OnMasked.Numbers.{shift}
 use Rattle.ir_memory.specs.declared.access.BlockPlace.{BlockPlace}
 use Rattle.ir_memory.specs.declared.cell.Cell.TheVariants as cell
 use Rattle.ir_memory.specs.declared.kept.KeptBlock.{KeptBlock}

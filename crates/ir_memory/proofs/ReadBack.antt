@@ -10,7 +10,7 @@ use Rattle.ir_eval.specs.declared.value.Pointer.{Pointer}
 use Rattle.ir_eval.specs.declared.value.Scalar.{Scalar}
 use Rattle.ir_eval.specs.declared.value.Scalar.TheVariants as scalar
 use Rattle.ir_tables.specs.declared.undefined_kind.UndefinedKind.TheVariants.{EndedBlock, OutsideBlock, WriteToConstant, Misaligned}
-use Rattle.masked_bytes.proofs.Numbers.{shift}
+use Rattle.ir_memory.proofs.OnMasked.Numbers.{shift}
 use Rattle.ir_memory.specs.declared.leaf.Leaf.{Leaf}
 use Rattle.ir_memory.specs.declared.leaf.Leaf.TheVariants as leaf
 use Rattle.ir_memory.specs.declared.cell.Cell.{Cell}

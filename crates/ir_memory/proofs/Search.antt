@@ -6,7 +6,7 @@ use Rattle.std.proofs.lemmas.Bool.{cases_lt, cases_eq}
 use Rattle.std.proofs.lemmas.Bool.Decides.{nat_tests}
 use Rattle.std.proofs.lemmas.List.{get_or_push, get_or_append_left, length-set, get_or-set_same, get_or-set_other}
 use Rattle.ir_eval.specs.declared.value.Scalar.{Scalar}
-use Rattle.pointer_pieces.specs.declared.piece.PointerPiece.{PointerPiece}
+use Rattle.ir_memory.specs.declared.pointers.piece.PointerPiece.{PointerPiece}
 use Rattle.ir_memory.specs.declared.access.BlockPlace.{BlockPlace}
 use Rattle.ir_memory.specs.declared.kept.KeptBlock.{KeptBlock}
 use Rattle.ir_memory.specs.declared.leaf.Leaf.{Leaf}

@@ -9,11 +9,11 @@ use Rattle.std.proofs.lemmas.List.FromFn.{get_or-map-range_with_len}
 use Rattle.std.proofs.lemmas.List.Edits.{length-between, get_or-between}
 use Rattle.std.proofs.lemmas.Bool.{or_parts}
 use Rattle.ir_eval.specs.declared.value.Pointer.{Pointer}
-use Rattle.pointer_pieces.specs.declared.piece.PointerPiece.{PointerPiece}
-use Rattle.pointer_pieces.specs.Pieces.{without, with_pointer, with_moved}
-use Rattle.masked_bytes.specs.Masked.{mapped_with_places, put, digit}
-use Rattle.masked_bytes.specs.Masked as masked
-use Rattle.masked_bytes.proofs.Placed.{placed-same, placed-map, range-placed, length-placed, get_or-placed}
+use Rattle.ir_memory.specs.declared.pointers.piece.PointerPiece.{PointerPiece}
+use Rattle.ir_memory.specs.Pointers.Pieces.{without, with_pointer, with_moved}
+use Rattle.ir_memory.specs.Masked.Masked.{mapped_with_places, put, digit}
+use Rattle.ir_memory.specs.Masked.Masked as masked
+use Rattle.ir_memory.proofs.OnMasked.Placed.{placed-same, placed-map, range-placed, length-placed, get_or-placed}
 use Rattle.ir_memory.specs.declared.cell.Cell.{Cell}
 use Rattle.ir_memory.specs.declared.cell.Cell.TheVariants as cell
 use Rattle.ir_memory.specs.declared.kept.KeptBlock.{KeptBlock}

@@ -10,3 +10,5 @@ pub mod Lending
 pub mod Numbered
 pub mod Rows
 pub mod Plain
+pub mod Masked
+pub mod Pointers

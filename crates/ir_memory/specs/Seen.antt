@@ -3,10 +3,10 @@
 use Rattle.std.specs.Prelude.{◌≡◌, ℕ, ◌+◌, ◌<◌, ◌≤◌, List, [], length, map, replicate, Bool, true, false, ◌||◌, Option, Some, None, slice_index_or}
 use Rattle.std.specs.Ordering.{nat_cmp}
 use Rattle.std.specs.BTreeMap as tree
-use Rattle.pointer_pieces.specs.declared.piece.PointerPiece.{PointerPiece}
-use Rattle.pointer_pieces.specs.declared.pieces.Pieces.{Pieces}
-use Rattle.pointer_pieces.specs.Pieces.{at_slots}
-use Rattle.masked_bytes.specs.Masked.{mapped_with_places, put}
+use Rattle.ir_memory.specs.declared.pointers.piece.PointerPiece.{PointerPiece}
+use Rattle.ir_memory.specs.declared.pointers.pieces.Pieces.{Pieces}
+use Rattle.ir_memory.specs.Pointers.Pieces.{at_slots}
+use Rattle.ir_memory.specs.Masked.Masked.{mapped_with_places, put}
 use Rattle.ir_memory.specs.declared.kind.BlockKind.{BlockKind}
 use Rattle.ir_memory.specs.declared.kind.BlockKind.TheVariants.{Stack}
 use Rattle.ir_memory.specs.declared.cell.Cell.{Cell}

@@ -11,11 +11,11 @@ ghost use Rattle.ir_memory.specs.Find.{AreStarts, HasOnly, IsOnly, place_there};
 
 use crate::BlockKind;
 use crate::kept::KeptBlock;
+use crate::pointers::Pieces;
 use crate::starts::block_at;
 use crate::table::BlockTable;
 use ir_eval::{Pointer, Scalar};
 use ir_tables::UndefinedKind;
-use pointer_pieces::Pieces;
 
 /// Where the first byte of an access is: the number of its block, and how far it lies behind the start.
 #[derive(Clone, Copy)]

@@ -4,13 +4,13 @@ ghost use Rattle.ir_memory.specs.Memory as of;
 ghost use Rattle.ir_memory.specs.MemoryBlock as block;
 ghost use Rattle.ir_memory.specs.declared.kept.KeptBlock.{KeptBlock as Kept};
 ghost use Rattle.ir_memory.specs.Seen.{at, all_seen, IsRoom, IsSound, with_copied};
-ghost use Rattle.pointer_pieces.specs.Pieces.{with_moved};
+ghost use Rattle.ir_memory.specs.Pointers.Pieces.{with_moved};
 
 use crate::access::BlockPlace;
+use crate::masked::MaskedBytes;
+use crate::pointers::Pieces;
 use crate::table::BlockTable;
 use crate::write::clear;
-use masked_bytes::MaskedBytes;
-use pointer_pieces::Pieces;
 use std::alloc::{AllocError, Global};
 use std::mem;
 

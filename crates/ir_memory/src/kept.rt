@@ -2,10 +2,10 @@
 ghost use Rattle.std.specs.Prelude.{◌≡◌, ◌≢◌, ◌+◌, ◌^◌, ◌<◌, ◌≤◌, ◌&&◌, nat_le, IfSome, Some, ℕ, Option, replicate, true, false};
 ghost use Rattle.ir_memory.specs.MemoryBlock as block;
 ghost use Rattle.ir_memory.specs.Seen.{fresh, ended_block, seen};
-ghost use Rattle.pointer_pieces.specs.declared.piece.PointerPiece.{PointerPiece};
+ghost use Rattle.ir_memory.specs.declared.pointers.piece.PointerPiece.{PointerPiece};
 
 use crate::BlockKind;
-use masked_bytes::MaskedBytes;
+use crate::masked::MaskedBytes;
 use std::alloc::Global;
 
 /// A run of addresses: its bytes, of which some may be poison, and whether pieces of pointers may stand there.

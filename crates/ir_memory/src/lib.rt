@@ -1,10 +1,16 @@
 //! The memory of a run: blocks of bytes with addresses that are never used again.
 //!
-//! It stands on the values of `ir_eval`, the kinds of undefined behaviour of `ir_tables`, `masked_bytes` and
-//! `pointer_pieces`. Its promise: each call changes memory and answers as the definition over plain lists of
+//! It stands on the values of `ir_eval`, the kinds of undefined behaviour of `ir_tables`, `ir_memory::masked` and
+//! `ir_memory::pointers`. Its promise: each call changes memory and answers as the definition over plain lists of
 //! blocks and cells says, and a call that refuses leaves memory as it was. Definitions: `specs/Cell`,
 //! `specs/MemoryBlock`, `specs/Memory`; what may be handed in: `specs/Given`; what an answer says: `specs/Answer`; bytes
 //! that are told as they lie: `specs/Plain`.
+//!
+//! Its modules:
+//!
+//! - `masked`: Bytes with a mask: each is a byte or poison.
+//! - `pointers`: The pieces of pointers in memory, those of eight addresses each in a slot of an
+//!   ordered map.
 //!
 //! ```
 //! let mut memory = Memory::new(alloc);
@@ -26,8 +32,10 @@ mod fault;
 mod kept;
 mod kind;
 mod leaf;
+pub mod masked;
 mod memory;
 mod page;
+pub mod pointers;
 mod read;
 mod spare;
 mod starts;

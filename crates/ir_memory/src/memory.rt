@@ -15,6 +15,8 @@ ghost use Rattle.ir_memory.specs.Plain.{LoadsBytes};
 use crate::access::{BlockPlace, Request, access, plain_access, started};
 use crate::copy::{copy_cells, meets};
 use crate::kept::KeptBlock;
+use crate::masked::MaskedBytes;
+use crate::pointers::Pieces;
 use crate::read::{has_pieces, read_at};
 use crate::spare::Spare;
 use crate::starts::{forget, note};
@@ -23,8 +25,6 @@ use crate::write::{clear, write_many, write_number, write_pointer, write_poison}
 use crate::{BlockKind, Leaf, MemoryFault};
 use ir_eval::{Pointer, Scalar};
 use ir_tables::UndefinedKind;
-use masked_bytes::MaskedBytes;
-use pointer_pieces::Pieces;
 use std::alloc::{AllocError, Global};
 use std::marker::Model;
 

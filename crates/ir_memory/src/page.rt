@@ -6,7 +6,7 @@ ghost use Rattle.ir_memory.specs.Rows.{LendsRow};
 ghost use Rattle.ir_memory.specs.Seen.{ended_block};
 
 use crate::kept::KeptBlock;
-use masked_bytes::MaskedBytes;
+use crate::masked::MaskedBytes;
 use std::alloc::{AllocError, Global};
 use std::marker::Model;
 use std::mem;

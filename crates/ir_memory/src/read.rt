@@ -11,9 +11,9 @@ use crate::Leaf;
 use crate::access::BlockPlace;
 use crate::cell::{Cell, read, value_of};
 use crate::kept::KeptBlock;
+use crate::pointers::Pieces;
 use crate::table::BlockTable;
 use ir_eval::Scalar;
-use pointer_pieces::Pieces;
 
 /// The leaf at a place.
 #[inline(always)]

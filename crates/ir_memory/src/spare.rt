@@ -1,7 +1,7 @@
 //! Memory of blocks that have ended, for those that begin.
 ghost use Rattle.std.specs.Prelude.{◌≡◌, IfOk, Some, replicate};
 
-use masked_bytes::MaskedBytes;
+use crate::masked::MaskedBytes;
 use std::alloc::{AllocError, Global};
 
 /// How many bytes a block may have whose memory is kept.

@@ -6,8 +6,8 @@ ghost use Rattle.ir_memory.specs.Seen.{at, all_seen};
 ghost use Rattle.ir_memory.specs.Find.{AreStarts, HasOnly, IsLast, IsSplit, noted};
 
 use crate::page::ROWS;
+use crate::pointers::Pieces;
 use crate::table::BlockTable;
-use pointer_pieces::Pieces;
 use std::alloc::AllocError;
 
 /// How many pages start at or below an address.

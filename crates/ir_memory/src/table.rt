@@ -6,8 +6,8 @@ ghost use Rattle.ir_memory.specs.Lending.{LendsBlock};
 ghost use Rattle.std.specs.Borrow.{sem};
 
 use crate::kept::KeptBlock;
+use crate::masked::MaskedBytes;
 use crate::page::{Page, ROWS};
-use masked_bytes::MaskedBytes;
 use std::alloc::{AllocError, Global};
 use std::marker::Model;
 

@@ -5,12 +5,12 @@ ghost use Rattle.ir_memory.specs.MemoryBlock as block;
 ghost use Rattle.ir_memory.specs.Cell as cell;
 ghost use Rattle.ir_memory.specs.declared.cell.Cell.TheVariants as the;
 ghost use Rattle.ir_memory.specs.Seen.{at, all_seen, IsRoom, IsSound};
-ghost use Rattle.pointer_pieces.specs.Pieces.{without};
+ghost use Rattle.ir_memory.specs.Pointers.Pieces.{without};
 
 use crate::access::BlockPlace;
+use crate::pointers::Pieces;
 use crate::table::BlockTable;
 use ir_eval::Pointer;
-use pointer_pieces::Pieces;
 use std::alloc::AllocError;
 
 /// Removes the pieces of a range.

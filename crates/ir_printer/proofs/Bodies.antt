@@ -20,7 +20,7 @@ use Rattle.canonical.specs.Canonical.{function_phrase, function_phrase_by, body_
 use Rattle.canonical.specs.Operations.{dotted}
 use Rattle.canonical.specs.Phrase.{Phrase, word, ◌␣◌, ◌⌢◌, in_parentheses, listed}
 use Rattle.canonical.specs.Types.{type_phrase}
-use Rattle.instruction_printer.specs.Named.{values_in}
+use Rattle.ir_printer.specs.Instructions.Named.{values_in}
 use Rattle.ir_printer.specs.Listed.{head_of, parameter_list}
 use Rattle.ir_printer.specs.Blocks.{HasBlock, block_of}
 use Rattle.ir_printer.specs.Functions.{function_of, declared_phrase, defined_phrase}

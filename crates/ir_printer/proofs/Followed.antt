@@ -1,11 +1,11 @@
 -- The lines of a module, one behind the other.
 use Rattle.std.proofs.Common.{◌≡◌, ℕ, List, [], ◌∷◌, ◌++◌, All, Some, slice_get, subst, append_assoc, refl, sym, ap, ◌∙◌}
 use Rattle.std.proofs.lemmas.Option.{get_or_from_slice_get, slice_get_within}
-use Rattle.gathered.specs.Told.{GatherState}
+use Rattle.ir_printer.specs.Gathered.Told.{GatherState}
 use Rattle.ir_lexer.specs.Pieces.{TextPiece, Separator, Line}
 use Rattle.canonical.specs.Phrase.{Phrase, each}
-use Rattle.phrase_printer.specs.Printing.{Prints}
-use Rattle.phrase_printer.proofs.Printing.{prints_same, prints_then}
+use Rattle.ir_printer.specs.Phrases.Printing.{Prints}
+use Rattle.ir_printer.proofs.OnPhrases.Printing.{prints_same, prints_then}
 
 -- lines behind other lines
 each_then : (xs ys : List Phrase) (s : Separator) → each Line (xs ++ ys) s ≡ each Line xs s ++ each Line ys s

@@ -4,3 +4,6 @@ pub mod Lines
 pub mod Followed
 pub mod Bodies
 pub mod Lists
+pub mod OnGathered
+pub mod OnPhrases
+pub mod OnInstructions

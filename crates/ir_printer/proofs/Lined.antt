@@ -1,11 +1,11 @@
 -- Phrases with one separator behind each, put one behind the other.
 use Rattle.std.proofs.Common.{◌≡◌, ℕ, ◌+◌, ◌<◌, ◌≤◌, List, [], ◌∷◌, length, drop, get_or, sym, ap, ◌∙◌}
 use Rattle.std.proofs.lemmas.List.{at_drop_more, at_drop_all}
-use Rattle.gathered.specs.Told.{GatherState}
+use Rattle.ir_printer.specs.Gathered.Told.{GatherState}
 use Rattle.ir_lexer.specs.Pieces.{Separator}
 use Rattle.canonical.specs.Phrase.{Phrase, each}
-use Rattle.phrase_printer.specs.Printing.{Prints}
-use Rattle.phrase_printer.proofs.Printing.{prints_then, prints_same, prints_none}
+use Rattle.ir_printer.specs.Phrases.Printing.{Prints}
+use Rattle.ir_printer.proofs.OnPhrases.Printing.{prints_then, prints_same, prints_none}
 
 module _ {A : Type 0} (sep : Separator) (phrase : A → Phrase) (all : List A → List Phrase) (none : all [] ≡ []) (more : (x : A) (xs : List A) → all (x ∷ xs) ≡ phrase x ∷ all xs) where
   -- one more is put

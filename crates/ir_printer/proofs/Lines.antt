@@ -6,7 +6,7 @@ use Rattle.module_arena.specs.declared.instruction.Inst.{Inst}
 use Rattle.module_arena.specs.Lists.{Lists}
 use Rattle.canonical.specs.Instructions.{instruction_phrase, block_phrase}
 use Rattle.canonical.specs.Phrase.{Phrase}
-use Rattle.instruction_printer.specs.Lines.{instruction_of}
+use Rattle.ir_printer.specs.Instructions.Lines.{instruction_of}
 use Rattle.ir_printer.specs.Blocks.{block_of}
 
 module _ (a : Lists) (f : Function) where

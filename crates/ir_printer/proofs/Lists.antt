@@ -3,7 +3,7 @@ use Rattle.std.proofs.Common.{◌≡◌, ℕ, zero, suc, ◌+◌, ◌-◌, ◌<�
 use Rattle.std.proofs.lemmas.List.{at_drop_more, at_drop_all, length-drop, length_push}
 use Rattle.std.proofs.lemmas.List.{length-map, get_or-map}
 use Rattle.std.proofs.lemmas.Option.{get_or_from_slice_get, slice_get_within}
-use Rattle.gathered.specs.Told.{GatherState}
+use Rattle.ir_printer.specs.Gathered.Told.{GatherState}
 use Rattle.ir_lexer.specs.Pieces.{Nothing}
 use Rattle.type_table.specs.Tree.{opaque_body}
 use Rattle.type_table.specs.declared.ir_type.StructBody.{StructBody}
@@ -14,8 +14,8 @@ use Rattle.module_arena.specs.View.{type_at}
 use Rattle.canonical.specs.Operations.{dotted}
 use Rattle.canonical.specs.Phrase.{Phrase, mark, listed}
 use Rattle.canonical.specs.Types.{type_phrase, type_phrases}
-use Rattle.phrase_printer.specs.Printing.{Prints, separator_before, comma_before}
-use Rattle.phrase_printer.proofs.Printing.{prints_same, prints_part}
+use Rattle.ir_printer.specs.Phrases.Printing.{Prints, separator_before, comma_before}
+use Rattle.ir_printer.proofs.OnPhrases.Printing.{prints_same, prints_part}
 use Rattle.ir_printer.specs.Listed.{declared_list}
 
 -- types one by one

@@ -1,8 +1,8 @@
 -- What was put from nothing on.
 use Rattle.std.proofs.Common.{◌≡◌, ◌⊎◌, inl, inr, ℕ, ◌≤◌, List, [], true, false, Option, Some, None, refl, sym, append-nil, ap}
 use Rattle.ir_base.specs.Outside.{Added, Rose}
-use Rattle.gathered.specs.Told.{state, Says}
-use Rattle.phrase_printer.proofs.Printing.{rose_further, rose_later}
+use Rattle.ir_printer.specs.Gathered.Told.{state, Says}
+use Rattle.ir_printer.proofs.OnPhrases.Printing.{rose_further, rose_later}
 
 -- nothing is added
 none_added : (start : Option (List ℕ)) → Added start start []

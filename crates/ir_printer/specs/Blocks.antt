@@ -9,8 +9,8 @@ use Rattle.module_arena.specs.Lists.{Lists, value_names, function_blocks}
 use Rattle.module_arena.specs.Mentions.{result_of, end_operands_of, targets_of}
 use Rattle.module_arena.specs.Module.{Block}
 use Rattle.module_arena.specs.View.{constants_of, block_view}
-use Rattle.instruction_printer.specs.Named.{values_in, labels_in}
-use Rattle.instruction_printer.specs.Parts.{HasThis}
+use Rattle.ir_printer.specs.Instructions.Named.{values_in, labels_in}
+use Rattle.ir_printer.specs.Instructions.Parts.{HasThis}
 
 module _ (a : Lists) (f : Function) where
   -- the ids of an instruction are those of the arena and the function, and so is that of its result

@@ -1,22 +1,22 @@
 //! Aliases (LangRef, "Aliases").
 ghost use Rattle.std.specs.Prelude.{◌<◌, [], length, option_to_list, All};
 ghost use Rattle.std.specs.Option.{option_map_or};
-ghost use Rattle.gathered.specs.Told.{state};
+ghost use Rattle.ir_printer.specs.Gathered.Told.{state};
 ghost use Rattle.type_table.specs.Types.{trees};
 ghost use Rattle.module_arena.specs.Known.{HasGlobal, KnowsAlias, alias_types, counts};
 ghost use Rattle.module_arena.specs.Lists.{name_at};
 ghost use Rattle.module_arena.specs.View.{alias_type_view, alias_view};
 ghost use Rattle.canonical.specs.Canonical.{alias_type, alias_phrase, function_type};
 ghost use Rattle.canonical.specs.Names.{global};
-ghost use Rattle.phrase_printer.specs.Printing.{separator_of, Prints};
+ghost use Rattle.ir_printer.specs.Phrases.Printing.{separator_of, Prints};
 ghost use Rattle.ir_printer.specs.Listed.{dotted_list, signature_of};
 
+use crate::gathered::Gathered;
+use crate::instructions::put_dotted;
 use crate::linkage::put_linkage;
-use gathered::Gathered;
-use instruction_printer::put_dotted;
+use crate::phrases::{Separator, put_global, put_token, put_type, put_types};
 use ir_base::Sink;
 use module_arena::{Alias, AliasType, Arena, GlobalId};
-use phrase_printer::{Separator, put_global, put_token, put_type, put_types};
 use type_table::{TypeId, TypeTable};
 
 /// Puts the types of parameters, and `...` where there may be more.

@@ -1,19 +1,19 @@
 //! Blocks, line by line.
 ghost use Rattle.std.specs.Prelude.{map, All};
-ghost use Rattle.gathered.specs.Told.{state};
+ghost use Rattle.ir_printer.specs.Gathered.Told.{state};
 ghost use Rattle.ir_lexer.specs.Pieces as pieces;
 ghost use Rattle.ir_lexer.specs.Pieces.{Indented};
 ghost use Rattle.canonical.specs.Instructions.{instruction_phrase, block_phrase, blocks_phrase};
 ghost use Rattle.canonical.specs.Phrase.{each};
-ghost use Rattle.phrase_printer.specs.Printing.{separator_of, Prints};
-ghost use Rattle.instruction_printer.specs.Lines.{instruction_of};
+ghost use Rattle.ir_printer.specs.Phrases.Printing.{separator_of, Prints};
+ghost use Rattle.ir_printer.specs.Instructions.Lines.{instruction_of};
 ghost use Rattle.ir_printer.specs.Blocks.{HasInst, HasBlock, block_of};
 
-use gathered::Gathered;
-use instruction_printer::{put_ending, put_instruction};
+use crate::gathered::Gathered;
+use crate::instructions::{put_ending, put_instruction};
+use crate::phrases::{Separator, put_label};
 use ir_base::Sink;
 use module_arena::{Arena, Block, Function, Inst};
-use phrase_printer::{Separator, put_label};
 
 /// Puts instructions, each with a line feed and two spaces behind it.
 fn put_lines<S: Sink>(

@@ -1,24 +1,24 @@
 //! The entries of a module, each on a line of its own or more.
 ghost use Rattle.std.specs.Prelude.{codes, map, option_copied};
-ghost use Rattle.gathered.specs.Told.{state};
+ghost use Rattle.ir_printer.specs.Gathered.Told.{state};
 ghost use Rattle.ir_lexer.specs.Pieces as pieces;
 ghost use Rattle.ir_lexer.specs.Pieces.{Line};
 ghost use Rattle.type_table.specs.Types.{structs};
 ghost use Rattle.canonical.specs.Canonical.{text_phrases, struct_phrase};
 ghost use Rattle.canonical.specs.Phrase.{each, word};
 ghost use Rattle.ir_printer.specs.Listed.{target};
-ghost use Rattle.phrase_printer.specs.Printing.{Prints};
+ghost use Rattle.ir_printer.specs.Phrases.Printing.{Prints};
 ghost use Rattle.ir_printer.specs.Entries.{text_lines, variable_lines, alias_lines, function_lines};
 
 use crate::alias::put_alias;
 use crate::functions::put_function;
+use crate::gathered::Gathered;
+use crate::phrases::Separator;
 use crate::structs::put_struct;
 use crate::texts::{put_source, put_target};
 use crate::variable::put_variable;
-use gathered::Gathered;
 use ir_base::{Sink, Text};
 use module_arena::{AliasId, Arena, FunctionId, VariableId};
-use phrase_printer::Separator;
 use type_table::{StructId, TypeTable};
 
 /// Puts `source_filename`, where there is one.

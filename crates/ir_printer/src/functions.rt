@@ -1,18 +1,18 @@
 //! Functions (LangRef, "Functions").
 ghost use Rattle.std.specs.Prelude.{◌≡◌, length, Some, None};
-ghost use Rattle.gathered.specs.Told.{state};
+ghost use Rattle.ir_printer.specs.Gathered.Told.{state};
 ghost use Rattle.module_arena.specs.Known.{KnowsFunction};
 ghost use Rattle.module_arena.specs.declared.entry.Body.{Body};
 ghost use Rattle.canonical.specs.Canonical.{function_phrase};
-ghost use Rattle.phrase_printer.specs.Printing.{separator_of, Prints};
+ghost use Rattle.ir_printer.specs.Phrases.Printing.{separator_of, Prints};
 ghost use Rattle.ir_printer.specs.Functions.{function_of, declared_phrase, defined_phrase};
 
 use crate::blocks::put_blocks;
+use crate::gathered::Gathered;
 use crate::head::{put_declared, put_head, put_parameters};
-use gathered::Gathered;
+use crate::phrases::{Separator, put_token};
 use ir_base::Sink;
 use module_arena::{Arena, Body, Function};
-use phrase_printer::{Separator, put_token};
 
 /// Puts a function as a declaration.
 fn put_declaration<S: Sink>(

@@ -1,19 +1,19 @@
 //! The heads of functions (LangRef, "Functions").
 ghost use Rattle.std.specs.Prelude.{◌<◌, length, All};
-ghost use Rattle.gathered.specs.Told.{state};
+ghost use Rattle.ir_printer.specs.Gathered.Told.{state};
 ghost use Rattle.ir_lexer.specs.Pieces.{Nothing};
 ghost use Rattle.module_arena.specs.View.{parameter_view};
 ghost use Rattle.type_table.specs.Types.{trees};
 ghost use Rattle.canonical.specs.Canonical.{parameter_phrase};
 ghost use Rattle.canonical.specs.Phrase.{listed};
-ghost use Rattle.phrase_printer.specs.Printing.{separator_of, Prints};
+ghost use Rattle.ir_printer.specs.Phrases.Printing.{separator_of, Prints};
 ghost use Rattle.ir_printer.specs.Listed.{head_of, declared_list, parameter_list, HasType};
 
+use crate::gathered::Gathered;
 use crate::linkage::put_linkage;
-use gathered::Gathered;
+use crate::phrases::{Separator, put_comma, put_global, put_local, put_token, put_type};
 use ir_base::Sink;
 use module_arena::{Function, Parameter};
-use phrase_printer::{Separator, put_comma, put_global, put_local, put_token, put_type};
 use type_table::TypeTable;
 
 /// Puts the linkage, the return type and the name of a function, with that separator behind it.

@@ -1,15 +1,15 @@
 //! Linkages (LangRef, "Linkage Types").
-ghost use Rattle.gathered.specs.Told.{state};
+ghost use Rattle.ir_printer.specs.Gathered.Told.{state};
 ghost use Rattle.ir_lexer.specs.Pieces.{Space};
 ghost use Rattle.ir_tables.specs.Linkage.{linkage_word};
 ghost use Rattle.canonical.specs.Canonical.{linkage_phrase};
 ghost use Rattle.canonical.specs.Phrase.{word};
-ghost use Rattle.phrase_printer.specs.Printing.{Prints};
+ghost use Rattle.ir_printer.specs.Phrases.Printing.{Prints};
 
-use gathered::Gathered;
+use crate::gathered::Gathered;
+use crate::phrases::{Separator, put_token};
 use ir_base::Sink;
 use ir_tables::Linkage;
-use phrase_printer::{Separator, put_token};
 
 /// Puts the word of a linkage, and a space.
 pub(crate) fn put_linkage_word<S: Sink>(out: &mut Gathered, sink: &mut S, linkage: Linkage)

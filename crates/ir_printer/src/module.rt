@@ -1,11 +1,11 @@
 //! A whole module.
-ghost use Rattle.gathered.specs.Told.{state};
+ghost use Rattle.ir_printer.specs.Gathered.Told.{state};
 ghost use Rattle.module_arena.specs.View.{module_of};
 ghost use Rattle.canonical.specs.Canonical.{canon_pieces};
-ghost use Rattle.phrase_printer.specs.Printing.{Prints};
+ghost use Rattle.ir_printer.specs.Phrases.Printing.{Prints};
 
 use crate::entries::{put_aliases, put_functions, put_structs, put_texts, put_variables};
-use gathered::Gathered;
+use crate::gathered::Gathered;
 use ir_base::Sink;
 use module_arena::Arena;
 

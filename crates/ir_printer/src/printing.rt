@@ -1,13 +1,13 @@
 //! Whole modules, into a sink or as a text.
 ghost use Rattle.std.specs.Prelude.{◌≡◌, IfOk, OnOk, OnErr};
 ghost use Rattle.ir_base.specs.Outside.{Added, Rose};
-ghost use Rattle.gathered.specs.Told.{AddedFront};
+ghost use Rattle.ir_printer.specs.Gathered.Told.{AddedFront};
 ghost use Rattle.module_arena.specs.View.{module_of};
 ghost use Rattle.canonical.specs.Canonical.{canon};
 
+use crate::gathered::Gathered;
 use crate::growing::GrowingText;
 use crate::module::put_module;
-use gathered::Gathered;
 use ir_base::{Failed, Sink, Text};
 use module_arena::Checked;
 use std::alloc::{AllocError, Global};

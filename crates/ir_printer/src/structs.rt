@@ -1,14 +1,14 @@
 //! Named structs (LangRef, "Structure Type").
 ghost use Rattle.std.specs.Prelude.{◌<◌, length, option_copied};
-ghost use Rattle.gathered.specs.Told.{state};
+ghost use Rattle.ir_printer.specs.Gathered.Told.{state};
 ghost use Rattle.type_table.specs.Types.{trees, tree_body, KnowsBody};
 ghost use Rattle.canonical.specs.Canonical.{body_phrase};
-ghost use Rattle.phrase_printer.specs.Printing.{separator_of, Prints};
+ghost use Rattle.ir_printer.specs.Phrases.Printing.{separator_of, Prints};
 ghost use Rattle.ir_printer.specs.Listed.{struct_line};
 
-use gathered::Gathered;
+use crate::gathered::Gathered;
+use crate::phrases::{Separator, put_struct_body, put_struct_name, put_token};
 use ir_base::Sink;
-use phrase_printer::{Separator, put_struct_body, put_struct_name, put_token};
 use type_table::{StructBody, StructId, TypeTable};
 
 /// Puts what a struct is: opaque where it has no body.

@@ -1,13 +1,13 @@
 //! The texts of a module: where it came from, and for what machine it is.
 ghost use Rattle.std.specs.Prelude.{codes};
-ghost use Rattle.gathered.specs.Told.{state};
-ghost use Rattle.phrase_printer.specs.Printing.{separator_of, Prints};
+ghost use Rattle.ir_printer.specs.Gathered.Told.{state};
+ghost use Rattle.ir_printer.specs.Phrases.Printing.{separator_of, Prints};
 ghost use Rattle.canonical.specs.Phrase.{word};
 ghost use Rattle.ir_printer.specs.Listed.{text_line, target};
 
-use gathered::Gathered;
+use crate::gathered::Gathered;
+use crate::phrases::{Separator, put_text, put_token};
 use ir_base::Sink;
-use phrase_printer::{Separator, put_text, put_token};
 
 /// Puts `source_filename`, with that separator behind it.
 pub(crate) fn put_source<S: Sink>(out: &mut Gathered, sink: &mut S, text: &[u8], behind: Separator)

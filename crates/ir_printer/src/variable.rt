@@ -1,20 +1,20 @@
 //! Variables (LangRef, "Global Variables").
 ghost use Rattle.std.specs.Prelude.{◌<◌, length, option_map, option_to_list, All};
-ghost use Rattle.gathered.specs.Told.{state};
+ghost use Rattle.ir_printer.specs.Gathered.Told.{state};
 ghost use Rattle.ir_lexer.specs.Pieces.{Space};
 ghost use Rattle.type_table.specs.Types.{trees, tree};
 ghost use Rattle.module_arena.specs.Known.{KnowsVariable};
 ghost use Rattle.module_arena.specs.View.{constants_of, constant_at, variable_view};
 ghost use Rattle.canonical.specs.Canonical.{variable_linkage, global_or_constant, initialised, variable_phrase};
-ghost use Rattle.phrase_printer.specs.Printing.{separator_of, Prints};
+ghost use Rattle.ir_printer.specs.Phrases.Printing.{separator_of, Prints};
 
+use crate::gathered::Gathered;
+use crate::instructions::{before_alignment, put_alignment};
 use crate::linkage::{put_linkage, put_linkage_word};
-use gathered::Gathered;
-use instruction_printer::{before_alignment, put_alignment};
+use crate::phrases::{Separator, put_constant, put_global, put_token, put_type};
 use ir_base::Sink;
 use ir_tables::Linkage;
 use module_arena::{Arena, ConstId, Variable};
-use phrase_printer::{Separator, put_constant, put_global, put_token, put_type};
 use type_table::TypeId;
 
 /// Puts the linkage of a variable: external is written where it is declared.

@@ -20,8 +20,8 @@ use Rattle.module_arena.proofs.Found.{some-equal}
 use Rattle.name_rules.specs.Locals.{next_behind}
 use Rattle.name_rules.specs.ModuleOf.{parameters_in, function_in}
 use Rattle.name_rules.specs.ModuleOf as functions
-use Rattle.type_build.specs.Parameters.{without_body}
-use Rattle.buildable.specs.Bodies.{parameter_names, body_of}
+use Rattle.item_build.specs.Types.Parameters.{without_body}
+use Rattle.item_build.specs.Buildable.Bodies.{parameter_names, body_of}
 use Rattle.item_build.specs.Declaring.{declared_functions}
 use Rattle.item_build.proofs.Completed.{mixed_names}
 use Rattle.item_build.proofs.Walked.{gives_one, gives_none, get_between, changed_between}

@@ -11,7 +11,7 @@ use Rattle.name_rules.specs.declared.fault.ResolveFault.TheVariants as faults
 use Rattle.name_rules.specs.Breaks.{most, no_more, first_break}
 use Rattle.name_rules.specs.ModuleOf.{structs_in, variable_in, alias_in, function_in}
 use Rattle.name_rules.proofs.Fine.{unbroken}
-use Rattle.type_build.specs.Declarations.{AreFew}
+use Rattle.item_build.specs.Types.Declarations.{AreFew}
 use Rattle.item_build.specs.Declaring.{counts_in}
 use Rattle.item_build.proofs.Room.{are_few}
 

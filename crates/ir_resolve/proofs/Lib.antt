@@ -7,3 +7,6 @@ mod Meaning
 mod Staying
 mod Order
 mod WholeBody
+pub mod OnInstructionBuild
+pub mod OnBuildsWell
+pub mod OnReadsNarrow

@@ -3,14 +3,14 @@ use Rattle.std.proofs.Common.{◌≡◌, ℕ, ◌+◌, ◌≤◌, Bool, true, fa
 use Rattle.std.specs.List.{sum_by, cons_option}
 use Rattle.std.proofs.lemmas.List.{length-append, get_or-drop, drop-drop}
 use Rattle.std.proofs.lemmas.List.Sums.{sum_by-cons}
-use Rattle.ir_instructions.specs.Tree.{InstructionTree, BlockTree}
+use Rattle.ir_phrases.specs.Instructions.Tree.{InstructionTree, BlockTree}
 use Rattle.ir_syntax.specs.Counts.{block_count}
 use Rattle.module_arena.specs.Module as m
 use Rattle.module_arena.specs.Module.{LocalName, Numbered}
 use Rattle.name_rules.specs.Bodies.{operation_in, instructions_in, ending_in, blocks_in}
 use Rattle.name_rules.specs.Locals.{called, next_behind, next_after, announced_result, announced_block, has_result}
-use Rattle.buildable.specs.Bodies.{result_names}
-use Rattle.instruction_build.specs.Named.{built}
+use Rattle.item_build.specs.Buildable.Bodies.{result_names}
+use Rattle.ir_resolve.specs.InstructionBuild.Named.{built}
 use Rattle.ir_resolve.specs.Built.{result_count, block_results_count, instructions_built, block_built, blocks_built}
 
 -- the first of what is left

@@ -3,7 +3,7 @@ use Rattle.std.proofs.Common.{◌≡◌, ℕ, ◌+◌, ◌≤◌, Bool, true, fa
 use Rattle.std.specs.List.{cons_option}
 use Rattle.std.proofs.lemmas.List.{length-map, length-append, append-nil, map-append}
 use Rattle.std.proofs.lemmas.Grind.{flat_map-append}
-use Rattle.ir_instructions.specs.Tree.{InstructionTree, BlockTree}
+use Rattle.ir_phrases.specs.Instructions.Tree.{InstructionTree, BlockTree}
 use Rattle.ir_syntax.specs.Counts.{block_count}
 use Rattle.ir_syntax.specs.Tree.{ParameterTree}
 use Rattle.module_arena.specs.declared.entry.LocalName as the_local
@@ -13,9 +13,9 @@ use Rattle.module_arena.specs.View.{local_view}
 use Rattle.name_rules.specs.Bodies.{instruction_in, instructions_in, block_in, blocks_in}
 use Rattle.name_rules.specs.Locals.{Announced, next_behind, next_after, announced_parameter, announced_result, announced_block, has_result}
 use Rattle.name_rules.specs.ModuleOf.{parameters_in}
-use Rattle.type_build.proofs.Parameters.{behind_le}
-use Rattle.buildable.specs.Bodies.{result_names}
-use Rattle.instruction_build.proofs.Gathered.{after_more}
+use Rattle.item_build.proofs.OnTypes.Parameters.{behind_le}
+use Rattle.item_build.specs.Buildable.Bodies.{result_names}
+use Rattle.ir_resolve.proofs.OnInstructionBuild.Gathered.{after_more}
 
 -- the number behind one block more
 pub behind_more : (n : ℕ) (bs : List BlockTree) (b : BlockTree) → next_after n (flat_map announced_block (bs ++ b ∷ [])) ≡ next_after (next_after n (flat_map announced_block bs)) (announced_block b)

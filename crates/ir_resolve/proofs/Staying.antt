@@ -2,7 +2,7 @@
 use Rattle.std.proofs.Common.{◌≡◌, ℕ, ◌<◌, ◌≤◌, zero, suc, List, [], ◌∷◌, ◌++◌, length, get_or, refl, sym, ◌∙◌, subst, arith}
 use Rattle.std.proofs.lemmas.List.{map-append}
 use Rattle.std.proofs.lemmas.List.Elements.{All-push, All-weaker}
-use Rattle.ir_instructions.specs.Tree.{InstructionTree, EndingTree, BlockTree}
+use Rattle.ir_phrases.specs.Instructions.Tree.{InstructionTree, EndingTree, BlockTree}
 use Rattle.type_table.specs.Types.{structs, trees}
 use Rattle.module_arena.specs.declared.instruction.Inst.{Inst}
 use Rattle.module_arena.specs.declared.entry.Block as the_block
@@ -13,11 +13,11 @@ use Rattle.module_arena.specs.View.{type_at, constant_at, constants_of, local_vi
 use Rattle.module_arena.proofs.Grown.{KnowsInst-grown, KnowsBlock-grown}
 use Rattle.module_arena.proofs.SameView.{same-map, inst_view-same, block_view-same}
 use Rattle.name_rules.specs.Bodies.{ending_in}
-use Rattle.type_build.specs.Holding.{entries}
-use Rattle.type_build.specs.Stands.{IsType, IsConstant, Grows}
-use Rattle.type_build.proofs.Staying.{structs_stay, entries_stay}
-use Rattle.buildable.specs.Bodies.{CanInstruction, CanEnding, CanBlock}
-use Rattle.instruction_build.specs.Meant.{IsInst, IsEnding}
+use Rattle.item_build.specs.Types.Holding.{entries}
+use Rattle.item_build.specs.Types.Stands.{IsType, IsConstant, Grows}
+use Rattle.item_build.proofs.OnTypes.Staying.{structs_stay, entries_stay}
+use Rattle.item_build.specs.Buildable.Bodies.{CanInstruction, CanEnding, CanBlock}
+use Rattle.ir_resolve.specs.InstructionBuild.Meant.{IsInst, IsEnding}
 use Rattle.ir_resolve.specs.Built.{instructions_built, block_built, AreInsts, IsBlock, AreBlocks}
 
 -- at least as many

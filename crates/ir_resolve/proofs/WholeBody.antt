@@ -4,7 +4,7 @@ use Rattle.std.specs.List.{sum_by}
 use Rattle.std.proofs.lemmas.List.{length-map, length-append, drop-map}
 use Rattle.std.proofs.lemmas.Simd.{map-map}
 use Rattle.std.proofs.Math.Seq.{drop-append_seam}
-use Rattle.ir_instructions.specs.Tree.{BlockTree}
+use Rattle.ir_phrases.specs.Instructions.Tree.{BlockTree}
 use Rattle.ir_syntax.specs.Counts.{block_count}
 use Rattle.ir_syntax.specs.Tree.{ParameterTree}
 use Rattle.type_table.specs.Types.{trees}
@@ -18,8 +18,8 @@ use Rattle.module_arena.specs.Module as m
 use Rattle.module_arena.specs.Module.{LocalName}
 use Rattle.module_arena.specs.View.{constants_of, local_view, block_view, body_view}
 use Rattle.name_rules.specs.Locals.{next_after, announced_parameter}
-use Rattle.buildable.specs.Bodies.{parameter_names, body_of, result_names, values_of, labels_of}
-use Rattle.instruction_build.specs.Named.{called_of}
+use Rattle.item_build.specs.Buildable.Bodies.{parameter_names, body_of, result_names, values_of, labels_of}
+use Rattle.ir_resolve.specs.InstructionBuild.Named.{called_of}
 use Rattle.ir_resolve.specs.Built.{block_results_count, blocks_built, AreBlocks}
 use Rattle.ir_resolve.proofs.Numbers.{parameters_named}
 use Rattle.ir_resolve.proofs.Meaning.{blocks_meant, all_counted, block_results_le, blocks_named}

@@ -1,7 +1,7 @@
 -- Says how the code reads: what is built over the names of a function's values and blocks.
 use Rattle.std.specs.Prelude.{◌≡◌, ℕ, ◌+◌, cond, List, [], ◌∷◌, map, length, All}
 use Rattle.std.specs.List.{sum_by}
-use Rattle.ir_instructions.specs.Tree.{InstructionTree, BlockTree}
+use Rattle.ir_phrases.specs.Instructions.Tree.{InstructionTree, BlockTree}
 use Rattle.type_table.specs.Types.{trees}
 use Rattle.module_arena.specs.declared.instruction.Inst.{Inst}
 use Rattle.module_arena.specs.declared.entry.Block as the_block
@@ -11,7 +11,7 @@ use Rattle.module_arena.specs.Module.{LocalName, Instruction, Block}
 use Rattle.module_arena.specs.View.{constants_of, block_name, inst_view, block_view}
 use Rattle.name_rules.specs.Bodies.{ending_in}
 use Rattle.name_rules.specs.Locals.{has_result}
-use Rattle.instruction_build.specs.Named.{built}
+use Rattle.ir_resolve.specs.InstructionBuild.Named.{built}
 
 -- how many results an instruction has
 abbrev pub result_count : InstructionTree → ℕ

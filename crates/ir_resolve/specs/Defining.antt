@@ -5,7 +5,7 @@ use Rattle.module_arena.specs.Changes.{defined}
 use Rattle.module_arena.specs.Module as m
 use Rattle.module_arena.specs.Module.{Module}
 use Rattle.name_rules.specs.ModuleOf.{function_in}
-use Rattle.buildable.specs.Bodies.{parameter_names, body_of}
+use Rattle.item_build.specs.Buildable.Bodies.{parameter_names, body_of}
 use Rattle.item_build.specs.Declaring.{declared_functions}
 
 -- the function with that number gets the blocks of the item

@@ -1,24 +1,24 @@
 //! The blocks of a function.
 ghost use Rattle.std.specs.Prelude.{◌≡◌, ◌<◌, ◌≤◌, ◌+◌, ◌^◌, map, flat_map, length, All, OnOk, IfOk};
 ghost use Rattle.std.specs.List.{sum_by};
-ghost use Rattle.ir_instructions.specs.View.{block_view};
+ghost use Rattle.ir_phrases.specs.Instructions.View.{block_view};
 ghost use Rattle.ir_syntax.specs.Counts.{block_count};
 ghost use Rattle.type_table.specs.Types.{structs};
 ghost use Rattle.module_arena.specs.Known.{upto};
 ghost use Rattle.module_arena.specs.Mentions as mentions;
-ghost use Rattle.type_build.specs.Holding.{entries};
-ghost use Rattle.type_build.specs.Stands.{Grows};
-ghost use Rattle.buildable.specs.Bodies.{CanBlock};
-ghost use Rattle.instruction_build.specs.Named.{called_of};
+ghost use Rattle.item_build.specs.Types.Holding.{entries};
+ghost use Rattle.item_build.specs.Types.Stands.{Grows};
+ghost use Rattle.item_build.specs.Buildable.Bodies.{CanBlock};
+ghost use Rattle.ir_resolve.specs.InstructionBuild.Named.{called_of};
 ghost use Rattle.ir_resolve.specs.Built.{block_results_count, block_built, blocks_built, IsBlock, AreBlocks};
 
+use crate::instruction_build::{Locals, build_ending};
 use crate::instructions::build_instructions;
-use instruction_build::{Locals, build_ending};
 use ir_base::ItemList;
-use ir_instructions::WrittenBlock;
+use ir_phrases::instructions::WrittenBlock;
+use item_build::types::Builder;
 use module_arena::{BlockId, BlockList, ValueId, copied_name};
 use std::alloc::{AllocError, Global};
-use type_build::Builder;
 
 /// The block that is written, which has that id and whose results are the values from the next one on, and the value behind these.
 fn build_block(

@@ -1,6 +1,6 @@
 //! Gives the functions of a text their blocks.
 ghost use Rattle.std.specs.Prelude.{◌≡◌, ◌<◌, ◌≤◌, ◌^◌, ◌-◌, ◌+◌, [], map, length, slice_get, Some, None, OnOk, IfOk};
-ghost use Rattle.ir_instructions.specs.View.{block_view};
+ghost use Rattle.ir_phrases.specs.Instructions.View.{block_view};
 ghost use Rattle.ir_syntax.specs.View.{parameter_view, item_view, items_view};
 ghost use Rattle.type_table.specs.Types.{structs};
 ghost use Rattle.module_arena.specs.Changes.{defined};
@@ -8,20 +8,20 @@ ghost use Rattle.module_arena.specs.Module as m;
 ghost use Rattle.module_arena.specs.View.{module_of};
 ghost use Rattle.module_arena.specs.declared.entry.Function as the_function;
 ghost use Rattle.name_rules.specs.ModuleOf.{structs_in};
-ghost use Rattle.type_build.specs.Holding.{entries};
-ghost use Rattle.type_build.specs.Declarations.{AreFew};
-ghost use Rattle.buildable.specs.Bodies.{CanBody, parameter_names, body_of};
-ghost use Rattle.buildable.specs.Entries.{CanComplete};
-ghost use Rattle.buildable.specs.Laws.{AreBuildable};
+ghost use Rattle.item_build.specs.Types.Holding.{entries};
+ghost use Rattle.item_build.specs.Types.Declarations.{AreFew};
+ghost use Rattle.item_build.specs.Buildable.Bodies.{CanBody, parameter_names, body_of};
+ghost use Rattle.item_build.specs.Buildable.Entries.{CanComplete};
+ghost use Rattle.item_build.specs.Buildable.Laws.{AreBuildable};
 ghost use Rattle.item_build.specs.Declaring.{declared_functions, AreNamed, counts_in};
 ghost use Rattle.ir_resolve.specs.Defining.{defined_in, function_behind, IsCalledSo, with_bodies};
 
 use crate::body::build_body;
-use instruction_build::Locals;
+use crate::instruction_build::Locals;
 use ir_syntax::{Definition, Item};
+use item_build::types::Builder;
 use module_arena::FunctionId;
 use std::alloc::{AllocError, Global};
-use type_build::Builder;
 
 /// Gives the function with that number the blocks of the definition. The table of locals may be that of any function before.
 fn define_function<'a>(

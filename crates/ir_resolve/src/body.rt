@@ -1,23 +1,23 @@
 //! The whole body.
 ghost use Rattle.std.specs.Prelude.{◌≡◌, map, length, IfOk, OnOk};
-ghost use Rattle.ir_instructions.specs.View.{block_view};
+ghost use Rattle.ir_phrases.specs.Instructions.View.{block_view};
 ghost use Rattle.ir_syntax.specs.View.{parameter_view};
 ghost use Rattle.type_table.specs.Types.{structs, trees};
 ghost use Rattle.module_arena.specs.Known.{KnowsBody};
 ghost use Rattle.module_arena.specs.View.{constants_of, body_view};
-ghost use Rattle.type_build.specs.Holding.{entries};
-ghost use Rattle.type_build.specs.Stands.{Grows};
-ghost use Rattle.buildable.specs.Bodies.{CanBody, parameter_names, body_of};
+ghost use Rattle.item_build.specs.Types.Holding.{entries};
+ghost use Rattle.item_build.specs.Types.Stands.{Grows};
+ghost use Rattle.item_build.specs.Buildable.Bodies.{CanBody, parameter_names, body_of};
 
 use crate::blocks::build_blocks;
 use crate::gathered::gather;
+use crate::instruction_build::Locals;
 use crate::names::names_from;
-use instruction_build::Locals;
-use ir_instructions::WrittenBlock;
+use ir_phrases::instructions::WrittenBlock;
 use ir_syntax::WrittenParameter;
+use item_build::types::Builder;
 use module_arena::ValueId;
 use std::alloc::{AllocError, Global};
-use type_build::Builder;
 
 /// The body of a function with these parameters: its blocks, and the names of the results behind those of the parameters.
 /// The table of locals may be that of any function before. It is refused for want of memory alone.

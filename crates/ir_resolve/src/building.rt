@@ -8,20 +8,20 @@ ghost use Rattle.module_arena.specs.Lists.{no_lists};
 ghost use Rattle.module_arena.specs.View.{module_of};
 ghost use Rattle.name_rules.specs.Breaks.{first_break};
 ghost use Rattle.name_rules.specs.ModuleOf.{structs_in, module_of_items};
-ghost use Rattle.type_build.specs.Holding.{entries};
-ghost use Rattle.type_build.specs.Declarations.{AreFew};
-ghost use Rattle.buildable.specs.Laws.{AreBuildable};
-ghost use Rattle.buildable.specs.Narrow.{AreItemsNarrow};
+ghost use Rattle.item_build.specs.Types.Holding.{entries};
+ghost use Rattle.item_build.specs.Types.Declarations.{AreFew};
+ghost use Rattle.item_build.specs.Buildable.Laws.{AreBuildable};
+ghost use Rattle.item_build.specs.Buildable.Narrow.{AreItemsNarrow};
 ghost use Rattle.item_build.specs.Declaring.{counts_in};
 ghost use Rattle.ir_resolve.specs.Whole.{without_entries, with_items};
 
 use crate::bodies::define_items;
 use ir_syntax::{Item, Items};
+use item_build::types::Builder;
 use item_build::{build_structs, declare_items, initialise_items, set_targets, set_texts};
 use module_arena::Arena;
 use std::alloc::{AllocError, Global};
-use struct_order::dependency_order;
-use type_build::Builder;
+use type_judge::order::dependency_order;
 
 /// The texts and the structs of the items, and no entries. The structs get their bodies in the order of these numbers first.
 fn begin(alloc: Global, items: &[Item], order: &[u32]) -> Result<Builder, AllocError>

@@ -1,14 +1,14 @@
 //! What the values and the blocks of a function are called.
 ghost use Rattle.std.specs.Prelude.{◌≡◌, ◌<◌, ◌+◌, ◌-◌, ◌^◌, map, length, OnOk};
 ghost use Rattle.std.specs.List.{sum_by};
-ghost use Rattle.ir_instructions.specs.View.{block_view};
+ghost use Rattle.ir_phrases.specs.Instructions.View.{block_view};
 ghost use Rattle.ir_syntax.specs.Counts.{block_count};
 ghost use Rattle.ir_syntax.specs.View.{parameter_view};
-ghost use Rattle.buildable.specs.Bodies.{values_of, labels_of};
-ghost use Rattle.instruction_build.specs.Named.{called_of};
+ghost use Rattle.item_build.specs.Buildable.Bodies.{values_of, labels_of};
+ghost use Rattle.ir_resolve.specs.InstructionBuild.Named.{called_of};
 
-use instruction_build::{Locals, add_block};
-use ir_instructions::WrittenBlock;
+use crate::instruction_build::{Locals, add_block};
+use ir_phrases::instructions::WrittenBlock;
 use ir_syntax::WrittenParameter;
 use std::alloc::{AllocError, Global};
 

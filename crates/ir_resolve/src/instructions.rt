@@ -1,22 +1,22 @@
 //! The instructions of a block.
 ghost use Rattle.std.specs.Prelude.{◌≡◌, ◌<◌, ◌+◌, ◌-◌, ◌^◌, map, flat_map, length, All, OnOk, IfOk};
 ghost use Rattle.std.specs.List.{sum_by};
-ghost use Rattle.ir_instructions.specs.View.{instruction_view};
+ghost use Rattle.ir_phrases.specs.Instructions.View.{instruction_view};
 ghost use Rattle.type_table.specs.Types.{structs};
 ghost use Rattle.module_arena.specs.Known.{upto};
 ghost use Rattle.module_arena.specs.Mentions as mentions;
-ghost use Rattle.type_build.specs.Holding.{entries};
-ghost use Rattle.type_build.specs.Stands.{Grows};
-ghost use Rattle.buildable.specs.Bodies.{CanInstruction};
-ghost use Rattle.instruction_build.specs.Named.{called_of};
+ghost use Rattle.item_build.specs.Types.Holding.{entries};
+ghost use Rattle.item_build.specs.Types.Stands.{Grows};
+ghost use Rattle.item_build.specs.Buildable.Bodies.{CanInstruction};
+ghost use Rattle.ir_resolve.specs.InstructionBuild.Named.{called_of};
 ghost use Rattle.ir_resolve.specs.Built.{result_count, instructions_built, AreInsts};
 
-use instruction_build::{Locals, build_instruction, gives_result};
+use crate::instruction_build::{Locals, build_instruction, gives_result};
 use ir_base::ItemList;
-use ir_instructions::Instruction;
+use ir_phrases::instructions::Instruction;
+use item_build::types::Builder;
 use module_arena::{InstList, ValueId};
 use std::alloc::{AllocError, Global};
-use type_build::Builder;
 
 /// The value behind the result of the instruction, where it has one.
 fn value_behind(next: ValueId, written: &Instruction) -> ValueId

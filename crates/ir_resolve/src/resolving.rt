@@ -10,7 +10,7 @@ ghost use Rattle.module_arena.specs.WellFormed.{IsWellFormed};
 ghost use Rattle.name_rules.specs.Breaks.{first_break};
 ghost use Rattle.name_rules.specs.Demand.{Tells};
 ghost use Rattle.name_rules.specs.Reads.{Resolves};
-ghost use Rattle.buildable.specs.Narrow.{AreItemsNarrow};
+ghost use Rattle.item_build.specs.Buildable.Narrow.{AreItemsNarrow};
 
 use crate::building::build;
 use ir_syntax::Items;

@@ -2,20 +2,20 @@
 use Rattle.std.proofs.Common.{◌≡◌, ℕ, List, Option, Some, None, refl, sym, subst, not, is_some, inl, inr}
 use Rattle.ir_tables.specs.declared.linkage.Linkage.{Linkage}
 use Rattle.ir_tables.specs.declared.linkage.Linkage.TheVariants as linkage
-use Rattle.phrase_rows.specs.Row.{keep_second}
+use Rattle.ir_terminals.specs.PhraseRows.Row.{keep_second}
 use Rattle.ir_terminals.specs.declared.limits.Limits.{Limits}
 use Rattle.ir_terminals.specs.declared.terminal.Terminal.TheVariants as terminal
 use Rattle.ir_terminals.specs.Position.{text_tokens}
 use Rattle.ir_terminals.specs.Role.{class}
 use Rattle.ir_terminals.specs.Tokens.{word}
-use Rattle.ir_constants.specs.Tree.{ConstantTree}
-use Rattle.ir_constants.specs.Types.{type_row}
-use Rattle.ir_constants.specs.Forms.{AllAre, IsNotEmpty}
-use Rattle.ir_constants.proofs.Gives.{Gives, gives_any, gives_weaker, gives_nothing, gives_mapped, gives_chain, gives_second, gives_pair, gives_alt, gives_many, gives_labelled}
-use Rattle.ir_constants.proofs.Formed.{gives_constant}
-use Rattle.ir_instructions.specs.Dropped.{function_attributes_row}
-use Rattle.ir_instructions.specs.Forms.{IsBlockFormed}
-use Rattle.ir_instructions.proofs.Formed.{gives_blocks}
+use Rattle.ir_phrases.specs.Constants.Tree.{ConstantTree}
+use Rattle.ir_phrases.specs.Constants.Types.{type_row}
+use Rattle.ir_phrases.specs.Constants.Forms.{AllAre, IsNotEmpty}
+use Rattle.ir_phrases.proofs.OnConstants.Gives.{Gives, gives_any, gives_weaker, gives_nothing, gives_mapped, gives_chain, gives_second, gives_pair, gives_alt, gives_many, gives_labelled}
+use Rattle.ir_phrases.proofs.OnConstants.Formed.{gives_constant}
+use Rattle.ir_phrases.specs.Instructions.Dropped.{function_attributes_row}
+use Rattle.ir_phrases.specs.Instructions.Forms.{IsBlockFormed}
+use Rattle.ir_phrases.proofs.OnInstructions.Formed.{gives_blocks}
 use Rattle.ir_syntax.specs.Tree.{ItemTree}
 use Rattle.ir_syntax.specs.Heads.{GlobalHead, global_head_row}
 use Rattle.ir_syntax.specs.Variables.{constant_word_row, initialiser_shape, initialiser_core, tails_row, variable_rest_shape, variable_rest_core, variable_shape, variable_core, struct_row}

@@ -1,9 +1,9 @@
 -- Where a wider language does not get over the first bad token, so that the text need not be read in it.
 use Rattle.std.proofs.Common.{◌≡◌, ℕ, ◌<◌, List, [], ◌∷◌, ◌++◌, length, drop, slice_get, Bool, true, false, not, inl, inr, refl, sym, ap, subst, ◌∙◌, arith, length-append, ◌-◌, Some, Err}
 use Rattle.std.specs.Bool.{MatchBool}
-use Rattle.phrase_rows.specs.Row.{Bad}
-use Rattle.phrase_rows.specs.Answer.{ended}
-use Rattle.phrase_rows.proofs.Values.{takes_at}
+use Rattle.ir_terminals.specs.PhraseRows.Row.{Bad}
+use Rattle.ir_terminals.specs.PhraseRows.Answer.{ended}
+use Rattle.ir_terminals.proofs.OnPhraseRows.Values.{takes_at}
 use Rattle.ir_lexer.specs.Ahead.{Located}
 use Rattle.ir_terminals.specs.declared.limits.Limits.{Limits}
 use Rattle.ir_terminals.specs.LeftOut.{is_left_out}

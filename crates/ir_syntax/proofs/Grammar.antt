@@ -2,13 +2,13 @@
 use Rattle.std.proofs.Common.{[], ◌∷◌, Bool, true, false, cond, Option, Some, None, refl}
 use Rattle.ir_tables.specs.declared.linkage.Linkage.{Linkage}
 use Rattle.ir_tables.specs.declared.linkage.Linkage.TheVariants as linkage
-use Rattle.phrase_rows.specs.Row.{PhraseShape, keep_second, mapped}
-use Rattle.phrase_rows.specs.Reads.{Reads}
-use Rattle.phrase_rows.proofs.Plain.{reads_nothing, reads_fail, reads_one, reads_mapped, reads_labelled, reads_wider}
-use Rattle.phrase_rows.proofs.Chain.{reads_chain, reads_both, reads_second, reads_before, reads_pair}
-use Rattle.phrase_rows.proofs.Alt.{reads_alt, reads_optional}
-use Rattle.phrase_rows.proofs.Repeated.{reads_many}
-use Rattle.phrase_rows.proofs.Loop.{reads_loop}
+use Rattle.ir_terminals.specs.PhraseRows.Row.{PhraseShape, keep_second}
+use Rattle.ir_terminals.specs.PhraseRows.Reads.{Reads}
+use Rattle.ir_terminals.proofs.OnPhraseRows.Plain.{reads_nothing, reads_fail, reads_one, reads_mapped, reads_labelled, reads_wider}
+use Rattle.ir_terminals.proofs.OnPhraseRows.Chain.{reads_chain, reads_both, reads_second, reads_before, reads_pair}
+use Rattle.ir_terminals.proofs.OnPhraseRows.Alt.{reads_alt, reads_optional}
+use Rattle.ir_terminals.proofs.OnPhraseRows.Repeated.{reads_many}
+use Rattle.ir_terminals.proofs.OnPhraseRows.Loop.{reads_loop}
 use Rattle.ir_terminals.specs.declared.limits.Limits.{Limits}
 use Rattle.ir_terminals.specs.declared.terminal.Terminal.TheVariants as terminal
 use Rattle.ir_terminals.specs.declared.values.Integer.{Integer}
@@ -17,11 +17,11 @@ use Rattle.ir_terminals.specs.Tokens.{word}
 use Rattle.ir_terminals.specs.Terminal.{code}
 use Rattle.ir_terminals.specs.Values.{place_of_token}
 use Rattle.ir_terminals.proofs.RowsRead.{reads_word, reads_integer, reads_global_name, reads_local, reads_named_local, reads_quoted, reads_linkage, reads_matched, reads_braced}
-use Rattle.ir_constants.proofs.Grammar.{reads_type, reads_fields, reads_constant}
-use Rattle.ir_instructions.specs.Dropped.{comma_shape}
-use Rattle.ir_instructions.proofs.CallsGrammar.{reads_signature}
-use Rattle.ir_instructions.proofs.DroppedGrammar.{reads_section}
-use Rattle.ir_instructions.proofs.Grammar.{reads_blocks, reads_attachment, reads_parameter_attributes, reads_function_attributes, reads_convention}
+use Rattle.ir_phrases.proofs.OnConstants.Grammar.{reads_type, reads_fields, reads_constant}
+use Rattle.ir_phrases.specs.Instructions.Dropped.{comma_shape}
+use Rattle.ir_phrases.proofs.OnInstructions.CallsGrammar.{reads_signature}
+use Rattle.ir_phrases.proofs.OnInstructions.DroppedGrammar.{reads_section}
+use Rattle.ir_phrases.proofs.OnInstructions.Grammar.{reads_blocks, reads_attachment, reads_parameter_attributes, reads_function_attributes, reads_convention}
 use Rattle.ir_syntax.specs.Heads.{optional_linkage_row, global_word_shape, global_word_row, global_words_row, GlobalHead, global_head_shape, global_head_core}
 use Rattle.ir_syntax.specs.Variables.{opaque_row, plain_body_row, packed_body_row, body_row, struct_row, constant_word_row, initialiser_shape, initialiser_core, initialiser_row, tail_row, tail_shape, tail_step, tails_row, variable_of, variable_rest_shape, variable_rest_core, variable_shape, variable_core}
 use Rattle.ir_syntax.specs.Aliases.{alias_type_of, alias_type_shape, alias_type_core, target_core, alias_of, alias_shape, alias_core, global_behind_shape, global_behind_core, global_row}

@@ -2,17 +2,17 @@
 use Rattle.std.proofs.Common.{◌≡◌, ◌<◌, List, [], ◌∷◌, ◌++◌, length, Bool, refl, true, Option}
 use Rattle.ir_base.specs.declared.place.Place.{Place}
 use Rattle.ir_lexer.specs.Ahead.{Located}
-use Rattle.phrase_rows.specs.Row.{Done, begins, labelled, loop}
-use Rattle.phrase_rows.proofs.Repeated.{with_front, many_next}
-use Rattle.phrase_rows.proofs.Loop.{loop_next}
-use Rattle.phrase_rows.proofs.Values.{read_less}
+use Rattle.ir_terminals.specs.PhraseRows.Row.{Done, begins, labelled, loop}
+use Rattle.ir_terminals.proofs.OnPhraseRows.Repeated.{with_front, many_next}
+use Rattle.ir_terminals.proofs.OnPhraseRows.Loop.{loop_next}
+use Rattle.ir_terminals.proofs.OnPhraseRows.Values.{read_less}
 use Rattle.ir_terminals.specs.declared.limits.Limits.{Limits}
 use Rattle.ir_terminals.specs.declared.terminal.Terminal.TheVariants as terminal
 use Rattle.ir_terminals.specs.declared.values.Integer.{Integer}
 use Rattle.ir_terminals.specs.Role.{class}
 use Rattle.ir_terminals.specs.Tokens.{word}
-use Rattle.ir_instructions.specs.Dropped.{comma_shape, attachment_row}
-use Rattle.ir_instructions.proofs.Grammar.{reads_attachment}
+use Rattle.ir_phrases.specs.Instructions.Dropped.{comma_shape, attachment_row}
+use Rattle.ir_phrases.proofs.OnInstructions.Grammar.{reads_attachment}
 use Rattle.ir_syntax.specs.Tree.{ItemTree}
 use Rattle.ir_syntax.specs.Heads.{global_word_shape, global_word_row, global_words_row}
 use Rattle.ir_syntax.specs.Variables.{tail_row, tail_shape, tail_step}

@@ -3,9 +3,9 @@ use Rattle.std.proofs.Common.{◌≡◌, ℕ, ◌≤◌, ◌<◌, List, [], ◌�
 use Rattle.std.specs.Option.{is_none}
 use Rattle.std.specs.Bool.{MatchBool}
 use Rattle.std.proofs.lemmas.Bool.{ltb-true, ltb-false, not-true}
-use Rattle.phrase_rows.specs.Row.{Done, Bad}
-use Rattle.phrase_rows.proofs.Answer.{IsAnswer, answered, answered_whole, first_bad_once, viable_through, viable_in_whole, not_viable_from}
-use Rattle.phrase_rows.proofs.Values.{one_value}
+use Rattle.ir_terminals.specs.PhraseRows.Row.{Done, Bad}
+use Rattle.ir_terminals.proofs.OnPhraseRows.Answer.{IsAnswer, answered, answered_whole, first_bad_once, viable_through, viable_in_whole, not_viable_from}
+use Rattle.ir_terminals.proofs.OnPhraseRows.Values.{one_value}
 use Rattle.ir_lexer.specs.Ahead.{Located, tokens_in}
 use Rattle.ir_lexer.specs.Tokens.{Tokens}
 use Rattle.ir_lexer.proofs.TokenLists.{list_or_bad_not_both}

@@ -3,9 +3,9 @@ use Rattle.std.proofs.Common.{◌≡◌, ℕ, ◌+◌, ◌≤◌, List, [], ◌�
 use Rattle.std.specs.List.{sum_by}
 use Rattle.std.proofs.lemmas.List.{length-map}
 use Rattle.std.proofs.lemmas.List.Sums.{sum_by-cons}
-use Rattle.phrase_rows.specs.Row.{Row, PhraseShape, optional}
-use Rattle.phrase_rows.specs.Reads.{Reads}
-use Rattle.phrase_rows.proofs.Sizes.{IsSized, IsSizedFrom, sized_none, sized_mapped, sized_both, sized_pair, sized_second, sized_before, sized_alt, sized_nothing, sized_chain, sized_loop, sized_labelled, sized_many, labelled_from, fail_from, second_from, alt_from, mapped_onto}
+use Rattle.ir_terminals.specs.PhraseRows.Row.{Row, PhraseShape, optional}
+use Rattle.ir_terminals.specs.PhraseRows.Reads.{Reads}
+use Rattle.ir_terminals.proofs.OnPhraseRows.Sizes.{IsSized, IsSizedFrom, sized_none, sized_mapped, sized_both, sized_pair, sized_second, sized_before, sized_alt, sized_nothing, sized_chain, sized_loop, sized_labelled, sized_many, labelled_from, fail_from, second_from, alt_from, mapped_onto}
 use Rattle.ir_lexer.specs.Ahead.{Located}
 use Rattle.ir_lexer.specs.declared.lexer.TheConstants.{LARGEST}
 use Rattle.ir_terminals.specs.declared.limits.Limits.{Limits}
@@ -15,10 +15,10 @@ use Rattle.ir_terminals.specs.Position.{text_tokens}
 use Rattle.ir_terminals.specs.Role.{class}
 use Rattle.ir_terminals.specs.Tokens.{word, label_row}
 use Rattle.ir_terminals.proofs.RowsRead.{reads_word}
-use Rattle.ir_instructions.proofs.Grammar.{reads_ending}
-use Rattle.ir_instructions.specs.Dropped.{comma_shape, function_attributes_row}
-use Rattle.ir_instructions.specs.Blocks.{block_shape, block_core, block_list_row, blocks_row}
-use Rattle.ir_instructions.proofs.Sizes.{instructions_sized}
+use Rattle.ir_phrases.proofs.OnInstructions.Grammar.{reads_ending}
+use Rattle.ir_phrases.specs.Instructions.Dropped.{comma_shape, function_attributes_row}
+use Rattle.ir_phrases.specs.Instructions.Blocks.{block_shape, block_core, block_list_row, blocks_row}
+use Rattle.ir_phrases.proofs.OnInstructions.Sizes.{instructions_sized}
 use Rattle.ir_syntax.specs.Tree.{ItemTree, ParameterTree}
 use Rattle.ir_syntax.specs.Counts.{block_count, item_count, counted, most_counted}
 use Rattle.ir_syntax.specs.Functions.{ParametersTree, parameter_row, dots_row, parameter_step, more_parameters_row, more_parameters_shape, some_parameters_row, parameter_list_row, parameter_types, parameters_shape, parameters_core, parameters_row, head_row, metadata_row, declared_shape, declared_core, declaration_row, body_shape, body_core, defined_core, definition_row}

@@ -1,8 +1,8 @@
 -- Rows that read as others do, but may go on where those are refused at certain tokens.
 use Rattle.std.proofs.Common.{◌≡◌, ℕ, zero, suc, List, [], ◌∷◌, ◌++◌, length, Bool, true, false, ◌⊎◌, inl, inr, refl, sym, ap, subst, cond, Option, Some, None}
 use Rattle.std.proofs.lemmas.Bool.{cases_Bool}
-use Rattle.phrase_rows.specs.Row.{Reading, Done, Bad, bind, PhraseShape, Row, among, begins, nothing, fail, one, run_one, chain, mapped, joined_values, keep_second, keep_first, pair, alt, optional, many, run_many, separated, loop, run_loop, labelled}
-use Rattle.phrase_rows.specs.Reads.{Takes, Reads}
+use Rattle.ir_terminals.specs.PhraseRows.Row.{Reading, Done, Bad, bind, PhraseShape, Row, among, begins, nothing, fail, one, run_one, chain, mapped, joined_values, keep_second, keep_first, pair, alt, optional, many, run_many, separated, loop, run_loop, labelled}
+use Rattle.ir_terminals.specs.PhraseRows.Reads.{Takes, Reads}
 
 -- the two readings are the same, or the first is refused at a token for which this holds
 abbrev pub IsKept : {T A : Type 0} → (T → Bool) → Reading T A → Reading T A → Type 0

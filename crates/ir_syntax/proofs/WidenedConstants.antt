@@ -4,21 +4,21 @@ use Rattle.ir_lexer.specs.Ahead.{Located}
 use Rattle.ir_base.specs.declared.place.Place.{Place}
 use Rattle.ir_tables.specs.declared.opcode.Opcode.{Opcode}
 use Rattle.ir_tables.specs.declared.opcode.Opcode.TheVariants as op
-use Rattle.phrase_rows.specs.Row.{Row, among, fail, mapped}
-use Rattle.phrase_rows.proofs.ListParts.{among_left}
+use Rattle.ir_terminals.specs.PhraseRows.Row.{Row, among, fail, mapped}
+use Rattle.ir_terminals.proofs.OnPhraseRows.ListParts.{among_left}
 use Rattle.ir_terminals.specs.declared.limits.Limits.{Limits}
 use Rattle.ir_terminals.specs.declared.terminal.Terminal.{Terminal}
 use Rattle.ir_terminals.specs.declared.terminal.Terminal.TheVariants as terminal
 use Rattle.ir_terminals.specs.Role.{class}
 use Rattle.ir_terminals.specs.Tokens.{word, integer_row, local_row, named_local_row}
-use Rattle.ir_constants.specs.Tree.{TypeTree, ConstantTree, TypedConstantTree, LocalValue}
+use Rattle.ir_phrases.specs.Constants.Tree.{TypeTree, ConstantTree, TypedConstantTree, LocalValue}
 use Rattle.ir_terminals.specs.Values.{opcode_in}
-use Rattle.ir_constants.specs.Placed.{token_with_place}
-use Rattle.ir_constants.specs.Flags.{flags_row}
-use Rattle.ir_constants.specs.Types.{nest_shape, int_row, ptr_row, void_row, named_row, array_row, types_core, types_row, struct_row, packed_row, nest_step, value_type_core, value_type_over, type_core, type_over, nest_core, nest_row, type_at, type_row, value_type_row, fields_core, fields_row}
-use Rattle.ir_constants.specs.Constants.{holder_shape, expression_classes, expression_shape, integer_constant_row, address_row, bytes_row, simple_row, typed_core, typed_over, elements_core, elements_row, array_constant_row, struct_constant_row, packed_constant_row, operands_core, operands_row, element_address_row, conversion_row, arithmetic_row, expression_by, expression_core, expression_row, holder_step, constant_core, constant_over, holder_core, constant_at, constant_row, typed_constant_row}
-use Rattle.ir_constants.specs.Values.{value_core, value_row, typed_value_core, typed_value_row}
-use Rattle.ir_constants.proofs.Grammar.{reads_nest, reads_holder}
+use Rattle.ir_phrases.specs.Constants.Placed.{token_with_place}
+use Rattle.ir_phrases.specs.Constants.Flags.{flags_row}
+use Rattle.ir_phrases.specs.Constants.Types.{nest_shape, int_row, ptr_row, void_row, named_row, array_row, types_core, types_row, struct_row, packed_row, nest_step, value_type_core, value_type_over, type_core, type_over, nest_core, nest_row, type_at, type_row, value_type_row, fields_core, fields_row}
+use Rattle.ir_phrases.specs.Constants.Constants.{holder_shape, expression_classes, expression_shape, integer_constant_row, address_row, bytes_row, simple_row, typed_core, typed_over, elements_core, elements_row, array_constant_row, struct_constant_row, packed_constant_row, operands_core, operands_row, element_address_row, conversion_row, arithmetic_row, expression_by, expression_core, expression_row, holder_step, constant_core, constant_over, holder_core, constant_at, constant_row, typed_constant_row}
+use Rattle.ir_phrases.specs.Constants.Values.{value_core, value_row, typed_value_core, typed_value_row}
+use Rattle.ir_phrases.proofs.OnConstants.Grammar.{reads_nest, reads_holder}
 use Rattle.ir_syntax.proofs.Widened.{IsWidened, widened_same, widened_fail, widened_labelled, widened_alt, widened_chain, widened_mapped, widened_second, widened_both, widened_before, widened_pair, widened_many, widened_separated}
 
 -- as deep, or deeper where what begins a type or a constant that holds others is among these tokens

@@ -3,21 +3,21 @@ use Rattle.std.proofs.Common.{[], ◌∷◌, ℕ, List, Bool, true, false, refl,
 use Rattle.ir_lexer.specs.Ahead.{Located}
 use Rattle.ir_tables.specs.declared.opcode.Opcode.{Opcode}
 use Rattle.ir_tables.specs.declared.opcode.Opcode.TheVariants as op
-use Rattle.phrase_rows.specs.Row.{Row, fail, one, mapped, nothing, optional}
+use Rattle.ir_terminals.specs.PhraseRows.Row.{Row, fail, one, mapped, nothing, optional}
 use Rattle.ir_terminals.specs.declared.limits.Limits.{Limits}
 use Rattle.ir_terminals.specs.declared.terminal.Terminal.TheVariants as terminal
 use Rattle.ir_terminals.specs.Role.{class}
 use Rattle.ir_terminals.specs.Values.{opcode_of}
 use Rattle.ir_terminals.specs.Tokens.{word, local_row, label_row, predicate_row}
-use Rattle.ir_constants.specs.Flags.{flags_row}
-use Rattle.ir_instructions.specs.Tree.{SignatureTree, ReturnVoid, Jump}
-use Rattle.ir_instructions.specs.Dropped.{attachment_row, attachments_row, comma_shape, commas_shape, parameter_attributes_row, convention_row}
-use Rattle.ir_instructions.specs.Tails.{alignment_behind_row, alignment_row, count_behind_row, count_core, count_row, ListedParts, listed_step, listed_core, listed_row}
-use Rattle.ir_instructions.specs.Calls.{signature_step, some_types_row, signature_types_row, signature_core, signature_row, argument_core, argument_row, argument_list_core, argument_list_row, arguments_core, arguments_row, result_type_core, result_type_row, call_end_row, called_core, called_row, call_core, call_row}
-use Rattle.ir_instructions.specs.Operations.{next_value_core, next_value_row, next_typed_value_core, next_typed_value_row, operands_core, operands_row, cast_type_core, cast_type_row, arms_core, arms_row, address_core, address_row, from_block_row, incoming_core, incoming_row, operand_list_core, operand_list_row, indices_row, operation_shape, binary_core, binary_row, compare_core, cast_core, cast_row, select_core, freeze_core, phi_core, load_core, store_core, alloca_core, element_address_core, extract_core, insert_core, operation_core}
-use Rattle.ir_instructions.specs.Endings.{target_row, next_target_row, return_value_core, return_value_row, return_core, return_row, condition_row, branch_target_core, branch_target_row, branch_core, branch_row, case_core, case_row, cases_core, cases_row, switch_targets_core, switch_targets_row, switch_core, switch_row, unreachable_row, ending_core, ending_row}
-use Rattle.ir_instructions.specs.Instructions.{result_classes, operation_classes, marked_call_row, operation_over_core, operation_over, assigned_row, bare_row, instruction_core, instruction_row, instructions_row}
-use Rattle.ir_instructions.specs.Blocks.{block_core, block_row, blocks_row}
+use Rattle.ir_phrases.specs.Constants.Flags.{flags_row}
+use Rattle.ir_phrases.specs.Instructions.Tree.{SignatureTree, ReturnVoid, Jump}
+use Rattle.ir_phrases.specs.Instructions.Dropped.{attachment_row, attachments_row, comma_shape, commas_shape, parameter_attributes_row, convention_row}
+use Rattle.ir_phrases.specs.Instructions.Tails.{alignment_behind_row, alignment_row, count_behind_row, count_core, count_row, ListedParts, listed_step, listed_core, listed_row}
+use Rattle.ir_phrases.specs.Instructions.Calls.{signature_step, some_types_row, signature_types_row, signature_core, signature_row, argument_core, argument_row, argument_list_core, argument_list_row, arguments_core, arguments_row, result_type_core, result_type_row, call_end_row, called_core, called_row, call_core, call_row}
+use Rattle.ir_phrases.specs.Instructions.Operations.{next_value_core, next_value_row, next_typed_value_core, next_typed_value_row, operands_core, operands_row, cast_type_core, cast_type_row, arms_core, arms_row, address_core, address_row, from_block_row, incoming_core, incoming_row, operand_list_core, operand_list_row, indices_row, operation_shape, binary_core, binary_row, compare_core, cast_core, cast_row, select_core, freeze_core, phi_core, load_core, store_core, alloca_core, element_address_core, extract_core, insert_core, operation_core}
+use Rattle.ir_phrases.specs.Instructions.Endings.{target_row, next_target_row, return_value_core, return_value_row, return_core, return_row, condition_row, branch_target_core, branch_target_row, branch_core, branch_row, case_core, case_row, cases_core, cases_row, switch_targets_core, switch_targets_row, switch_core, switch_row, unreachable_row, ending_core, ending_row}
+use Rattle.ir_phrases.specs.Instructions.Instructions.{result_classes, operation_classes, marked_call_row, operation_over_core, operation_over, assigned_row, bare_row, instruction_core, instruction_row, instructions_row}
+use Rattle.ir_phrases.specs.Instructions.Blocks.{block_core, block_row, blocks_row}
 use Rattle.ir_syntax.proofs.Widened.{IsWidened, widened_same, widened_labelled, widened_alt, widened_chain, widened_mapped, widened_second, widened_both, widened_before, widened_pair, widened_optional, widened_many, widened_loop, widened_separated}
 use Rattle.ir_syntax.proofs.WidenedConstants.{IsWider, widened_word, widened_type, widened_value_type, widened_typed_constant, widened_value, widened_typed_value}
 

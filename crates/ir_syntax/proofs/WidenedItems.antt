@@ -3,12 +3,12 @@ use Rattle.std.proofs.Common.{[], ◌∷◌, Bool, true, false, refl, Option, So
 use Rattle.ir_lexer.specs.Ahead.{Located}
 use Rattle.ir_tables.specs.declared.linkage.Linkage.{Linkage}
 use Rattle.ir_tables.specs.declared.linkage.Linkage.TheVariants as linkage
-use Rattle.phrase_rows.specs.Row.{fail, keep_second, nothing, optional}
+use Rattle.ir_terminals.specs.PhraseRows.Row.{fail, keep_second, nothing, optional}
 use Rattle.ir_terminals.specs.declared.limits.Limits.{Limits}
 use Rattle.ir_terminals.specs.declared.terminal.Terminal.TheVariants as terminal
 use Rattle.ir_terminals.specs.Role.{class}
 use Rattle.ir_terminals.specs.Tokens.{word, global_name_row, local_row}
-use Rattle.ir_instructions.specs.Dropped.{comma_shape, parameter_attributes_row, function_attributes_row, convention_row}
+use Rattle.ir_phrases.specs.Instructions.Dropped.{comma_shape, parameter_attributes_row, function_attributes_row, convention_row}
 use Rattle.ir_syntax.specs.Heads.{optional_linkage_row, global_words_row, GlobalHead, global_head_row}
 use Rattle.ir_syntax.specs.Variables.{opaque_row, plain_body_row, packed_body_row, body_row, struct_row, constant_word_row, initialiser_core, initialiser_row, tails_row, variable_rest_core, variable_rest_row, variable_core, variable_row}
 use Rattle.ir_syntax.specs.Aliases.{alias_type_core, alias_type_row, target_row, alias_core, alias_row, global_behind_shape, global_behind_core, global_row}

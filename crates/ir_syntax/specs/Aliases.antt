@@ -1,6 +1,6 @@
 -- For `read_items`: the rows of aliases, and of what a global name may name.
 use Rattle.std.specs.Prelude.{false, [], ◌∷◌, ◌++◌, Option, Some, None}
-use Rattle.phrase_rows.specs.Row.{Row, PhraseShape, chain, mapped, joined_values, keep_second, pair, alt, labelled}
+use Rattle.ir_terminals.specs.PhraseRows.Row.{Row, PhraseShape, chain, mapped, joined_values, keep_second, pair, alt, labelled}
 use Rattle.ir_lexer.specs.Ahead.{Located}
 use Rattle.ir_terminals.specs.declared.limits.Limits.{Limits}
 use Rattle.ir_terminals.specs.declared.terminal.Terminal.TheVariants as terminal
@@ -8,11 +8,11 @@ use Rattle.ir_terminals.specs.declared.values.PlacedName.{PlacedName}
 use Rattle.ir_terminals.specs.Role.{class}
 use Rattle.ir_terminals.specs.Terminal.{code}
 use Rattle.ir_terminals.specs.Tokens.{word, global_name_row}
-use Rattle.ir_constants.specs.Tree.{TypeTree}
-use Rattle.ir_constants.specs.Types.{type_shape, type_row}
-use Rattle.ir_instructions.specs.Tree.{SignatureTree}
-use Rattle.ir_instructions.specs.Calls.{signature_shape, signature_row}
-use Rattle.ir_instructions.specs.Dropped.{comma_shape}
+use Rattle.ir_phrases.specs.Constants.Tree.{TypeTree}
+use Rattle.ir_phrases.specs.Constants.Types.{type_shape, type_row}
+use Rattle.ir_phrases.specs.Instructions.Tree.{SignatureTree}
+use Rattle.ir_phrases.specs.Instructions.Calls.{signature_shape, signature_row}
+use Rattle.ir_phrases.specs.Instructions.Dropped.{comma_shape}
 use Rattle.ir_syntax.specs.Tree.{AliasTypeTree, PlainAlias, FunctionAlias, ItemTree, Alias}
 use Rattle.ir_syntax.specs.Heads.{GlobalHead, global_head_row}
 use Rattle.ir_syntax.specs.Variables.{variable_shape, variable_row}

@@ -1,6 +1,6 @@
 -- For `read_items`: what reading all of a text comes to, with given limits.
 use Rattle.std.specs.Prelude.{◌≡◌, ℕ, ◌-◌, List, [], ◌∷◌, length, Bool, false, not, Result, Ok, Err}
-use Rattle.phrase_rows.specs.Answer.{answer, IsFirstBad}
+use Rattle.ir_terminals.specs.PhraseRows.Answer.{answer, IsFirstBad}
 use Rattle.ir_lexer.specs.Tokens.{Tokens}
 use Rattle.ir_lexer.specs.Ahead.{Located, tokens_in}
 use Rattle.ir_terminals.specs.Position.{Position, tokens_left, text_tokens, is_cut_off}

@@ -2,7 +2,7 @@
 use Rattle.std.specs.Prelude.{ℕ, ◌+◌, List, length}
 use Rattle.std.specs.List.{sum_by}
 use Rattle.ir_lexer.specs.declared.lexer.TheConstants.{LARGEST}
-use Rattle.ir_instructions.specs.Tree.{BlockTree}
+use Rattle.ir_phrases.specs.Instructions.Tree.{BlockTree}
 use Rattle.ir_syntax.specs.Tree.{ItemTree, Declaration, Definition}
 
 -- a block, with its instructions

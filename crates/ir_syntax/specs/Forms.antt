@@ -2,9 +2,9 @@
 use Rattle.std.specs.Prelude.{◌≡◌, Bool, true, false, not, List, Option, Some, None, is_some}
 use Rattle.ir_tables.specs.declared.linkage.Linkage.{Linkage}
 use Rattle.ir_tables.specs.declared.linkage.Linkage.TheVariants as linkage
-use Rattle.ir_constants.specs.Tree.{ConstantTree}
-use Rattle.ir_constants.specs.Forms.{AllAre, IsNotEmpty, IsFormed}
-use Rattle.ir_instructions.specs.Forms.{IsBlockFormed}
+use Rattle.ir_phrases.specs.Constants.Tree.{ConstantTree}
+use Rattle.ir_phrases.specs.Constants.Forms.{AllAre, IsNotEmpty, IsFormed}
+use Rattle.ir_phrases.specs.Instructions.Forms.{IsBlockFormed}
 use Rattle.ir_syntax.specs.Tree.{ItemTree, Variable, Definition}
 
 -- the linkages of variables that have no initialiser

@@ -1,18 +1,18 @@
 -- For `read_items`: the rows of functions: declarations and definitions.
 use Rattle.std.specs.Prelude.{Bool, true, false, cond, List, [], ◌∷◌, ◌++◌, map, Some, None}
-use Rattle.phrase_rows.specs.Row.{Row, PhraseShape, fail, one, chain, mapped, keep_second, keep_first, pair, alt, nothing, optional, loop, labelled}
+use Rattle.ir_terminals.specs.PhraseRows.Row.{Row, PhraseShape, fail, one, chain, mapped, keep_second, keep_first, pair, alt, nothing, optional, loop, labelled}
 use Rattle.ir_lexer.specs.Ahead.{Located}
 use Rattle.ir_terminals.specs.declared.limits.Limits.{Limits}
 use Rattle.ir_terminals.specs.declared.terminal.Terminal.TheVariants as terminal
 use Rattle.ir_terminals.specs.Role.{class}
 use Rattle.ir_terminals.specs.Terminal.{code, linkage_class}
 use Rattle.ir_terminals.specs.Tokens.{word, global_name_row, local_row}
-use Rattle.ir_constants.specs.Tree.{TypeTree}
-use Rattle.ir_constants.specs.Types.{type_shape, type_row}
-use Rattle.ir_instructions.specs.Tree.{BlockTree}
-use Rattle.ir_instructions.specs.Dropped.{comma_shape, attachment_row, parameter_attribute_shape, parameter_attributes_row, function_attribute_shape, function_attributes_row, convention_row}
-use Rattle.ir_instructions.specs.Calls.{arguments_shape}
-use Rattle.ir_instructions.specs.Blocks.{blocks_row}
+use Rattle.ir_phrases.specs.Constants.Tree.{TypeTree}
+use Rattle.ir_phrases.specs.Constants.Types.{type_shape, type_row}
+use Rattle.ir_phrases.specs.Instructions.Tree.{BlockTree}
+use Rattle.ir_phrases.specs.Instructions.Dropped.{comma_shape, attachment_row, parameter_attribute_shape, parameter_attributes_row, function_attribute_shape, function_attributes_row, convention_row}
+use Rattle.ir_phrases.specs.Instructions.Calls.{arguments_shape}
+use Rattle.ir_phrases.specs.Instructions.Blocks.{blocks_row}
 use Rattle.ir_syntax.specs.Tree.{ParameterTree, HeadTree, ItemTree, Declaration, Definition}
 use Rattle.ir_syntax.specs.Heads.{optional_linkage_row, global_word_shape, global_words_row}
 

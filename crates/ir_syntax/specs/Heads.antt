@@ -1,6 +1,6 @@
 -- For `read_items`: what stands before the type of a variable, an alias or a function.
-use Rattle.std.specs.Prelude.{false, [], ◌∷◌, ◌++◌, Option}
-use Rattle.phrase_rows.specs.Row.{Row, PhraseShape, keep_first, pair, alt, optional, loop, labelled}
+use Rattle.std.specs.Prelude.{false, [], ◌∷◌, Option}
+use Rattle.ir_terminals.specs.PhraseRows.Row.{Row, PhraseShape, keep_first, pair, alt, optional, loop, labelled}
 use Rattle.ir_lexer.specs.Ahead.{Located}
 use Rattle.ir_tables.specs.declared.linkage.Linkage.{Linkage}
 use Rattle.ir_terminals.specs.declared.terminal.Terminal.TheVariants as terminal
@@ -8,7 +8,7 @@ use Rattle.ir_terminals.specs.declared.values.PlacedName.{PlacedName}
 use Rattle.ir_terminals.specs.Role.{class}
 use Rattle.ir_terminals.specs.Terminal.{code, linkage_class}
 use Rattle.ir_terminals.specs.Tokens.{word, global_name_row, linkage_row}
-use Rattle.ir_instructions.specs.Dropped.{dropped}
+use Rattle.ir_phrases.specs.Instructions.Dropped.{dropped}
 
 -- LINKAGE?
 abbrev pub optional_linkage_row : Row Located (Option Linkage)

@@ -1,7 +1,7 @@
 -- For `read_items`: the items of a text.
 use Rattle.std.specs.Prelude.{false, List, [], ◌∷◌, ◌++◌}
-use Rattle.phrase_rows.specs.Row.{Row, PhraseShape, one, mapped, keep_second, keep_first, pair, alt, optional, many, labelled}
-use Rattle.phrase_rows.specs.Reads.{Front}
+use Rattle.ir_terminals.specs.PhraseRows.Row.{Row, PhraseShape, one, mapped, keep_second, keep_first, pair, alt, optional, many, labelled}
+use Rattle.ir_terminals.specs.PhraseRows.Reads.{Front}
 use Rattle.ir_base.specs.declared.place.Place.{Place}
 use Rattle.ir_lexer.specs.Ahead.{Located}
 use Rattle.ir_terminals.specs.declared.limits.Limits.{Limits}
@@ -11,7 +11,7 @@ use Rattle.ir_terminals.specs.Terminal.{code}
 use Rattle.ir_terminals.specs.Values.{place_of_token}
 use Rattle.ir_terminals.specs.Tokens.{word, quoted_row}
 use Rattle.ir_terminals.specs.Brackets.{matched_row, braced_row}
-use Rattle.ir_instructions.specs.Dropped.{function_attribute_shape, comma_shape}
+use Rattle.ir_phrases.specs.Instructions.Dropped.{function_attribute_shape, comma_shape}
 use Rattle.type_table.specs.declared.measure.TheConstants.{NESTING_LIMIT}
 use Rattle.ir_syntax.specs.Tree.{ItemTree, SourceFilename, DataLayout, TargetTriple, Attributes, Metadata}
 use Rattle.ir_syntax.specs.Variables.{struct_row}

@@ -6,8 +6,8 @@ use Rattle.ir_terminals.specs.declared.values.Integer.{Integer}
 use Rattle.ir_terminals.specs.declared.values.Local.{Local}
 use Rattle.ir_terminals.specs.declared.values.PlacedName.{PlacedName}
 use Rattle.ir_terminals.specs.declared.values.PlacedText.{PlacedText}
-use Rattle.ir_constants.specs.Tree.{TypeTree, ConstantTree}
-use Rattle.ir_instructions.specs.Tree.{BlockTree}
+use Rattle.ir_phrases.specs.Constants.Tree.{TypeTree, ConstantTree}
+use Rattle.ir_phrases.specs.Instructions.Tree.{BlockTree}
 
 -- what a struct is
 pub data BodyTree : Type 0 where

@@ -1,6 +1,6 @@
 -- For `read_items`: the rows of variables, and of the structs that have names.
 use Rattle.std.specs.Prelude.{Bool, true, false, [], ◌∷◌, ◌++◌, Option, Some, None}
-use Rattle.phrase_rows.specs.Row.{Row, PhraseShape, mapped, keep_second, keep_first, pair, alt, nothing, loop, labelled}
+use Rattle.ir_terminals.specs.PhraseRows.Row.{Row, PhraseShape, mapped, keep_second, keep_first, pair, alt, nothing, loop, labelled}
 use Rattle.ir_lexer.specs.Ahead.{Located}
 use Rattle.ir_tables.specs.declared.linkage.Linkage.{Linkage}
 use Rattle.ir_tables.specs.declared.linkage.Linkage.TheVariants as linkage
@@ -10,10 +10,10 @@ use Rattle.ir_terminals.specs.declared.values.Integer.{Integer}
 use Rattle.ir_terminals.specs.Role.{class}
 use Rattle.ir_terminals.specs.Terminal.{code}
 use Rattle.ir_terminals.specs.Tokens.{word, integer_row, named_local_row}
-use Rattle.ir_constants.specs.Tree.{TypeTree, ConstantTree}
-use Rattle.ir_constants.specs.Types.{type_row, fields_row}
-use Rattle.ir_constants.specs.Constants.{constant_shape, constant_row}
-use Rattle.ir_instructions.specs.Dropped.{comma_shape, attachment_row, section_row}
+use Rattle.ir_phrases.specs.Constants.Tree.{TypeTree, ConstantTree}
+use Rattle.ir_phrases.specs.Constants.Types.{type_row, fields_row}
+use Rattle.ir_phrases.specs.Constants.Constants.{constant_shape, constant_row}
+use Rattle.ir_phrases.specs.Instructions.Dropped.{comma_shape, attachment_row, section_row}
 use Rattle.ir_syntax.specs.Tree.{BodyTree, OpaqueBody, PlainBody, PackedBody, ItemTree, Struct, Variable}
 use Rattle.ir_syntax.specs.Heads.{GlobalHead}
 

@@ -1,10 +1,10 @@
 -- For `read_items`, and how the code reads: the plain tree of an item as it lies in memory.
 use Rattle.std.specs.Prelude.{Bool, List, map, Option, option_map}
 use Rattle.ir_terminals.specs.declared.values.Integer.{Integer}
-use Rattle.ir_constants.specs.Tree.{TypeTree, ConstantTree}
-use Rattle.ir_constants.specs.View.{type_view, constant_view}
-use Rattle.ir_instructions.specs.Tree.{BlockTree}
-use Rattle.ir_instructions.specs.View.{block_view}
+use Rattle.ir_phrases.specs.Constants.Tree.{TypeTree, ConstantTree}
+use Rattle.ir_phrases.specs.Constants.View.{type_view, constant_view}
+use Rattle.ir_phrases.specs.Instructions.Tree.{BlockTree}
+use Rattle.ir_phrases.specs.Instructions.View.{block_view}
 use Rattle.ir_syntax.specs.declared.item.WrittenBody.{WrittenBody}
 use Rattle.ir_syntax.specs.declared.item.WrittenBody.TheVariants as bodies
 use Rattle.ir_syntax.specs.declared.item.WrittenVariable as the_variable

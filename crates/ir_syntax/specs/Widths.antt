@@ -1,14 +1,14 @@
 -- Says how the code reads: at which tokens `read_items` reads a refused text once more: those at which a wider language
 -- can go on.
 use Rattle.std.specs.Prelude.{◌||◌, Bool, true, false, List, [], ◌∷◌}
-use Rattle.phrase_rows.specs.Row.{among}
+use Rattle.ir_terminals.specs.PhraseRows.Row.{among}
 use Rattle.ir_lexer.specs.Ahead.{Located}
 use Rattle.ir_lexer.specs.declared.token.TokenKind.{TokenKind}
 use Rattle.ir_lexer.specs.declared.token.TokenKind.TheVariants as kind
 use Rattle.ir_terminals.specs.declared.terminal.Terminal.TheVariants as terminal
 use Rattle.ir_terminals.specs.Role.{class}
 use Rattle.ir_terminals.specs.Terminal.{code}
-use Rattle.ir_constants.specs.Constants.{holder_shape}
+use Rattle.ir_phrases.specs.Constants.Constants.{holder_shape}
 
 -- it begins a type or a constant that holds others: `[`, `{`, `<`, or the opcode of a constant expression
 abbrev pub opens_nest : Located → Bool

@@ -6,8 +6,8 @@ ghost use Rattle.ir_terminals.specs.Follows.{Follows};
 use crate::heads::{GlobalHead, global_head};
 use crate::item::{Item, WrittenAlias, WrittenAliasType};
 use crate::variables::variable_behind;
-use ir_constants::type_of;
-use ir_instructions::signature;
+use ir_phrases::constants::type_of;
+use ir_phrases::instructions::signature;
 use ir_terminals::{Cursor, Fault, PlacedName, Terminal};
 
 /// `TYPE (( TYPE,* ))?`

@@ -1,7 +1,7 @@
 //! Reads declarations and definitions.
 ghost use Rattle.std.specs.Prelude.{map};
-ghost use Rattle.phrase_rows.specs.Row.{optional};
-ghost use Rattle.ir_instructions.specs.View.{block_view};
+ghost use Rattle.ir_terminals.specs.PhraseRows.Row.{optional};
+ghost use Rattle.ir_phrases.specs.Instructions.View.{block_view};
 ghost use Rattle.ir_syntax.specs.Functions.{parameter_row, dots_row, parameter_step, some_parameters_row, parameter_list_row, parameters_row, head_row, metadata_row, declared_row, declaration_row, body_row, defined_row, definition_row};
 ghost use Rattle.ir_syntax.specs.View.{parameter_view, parameters_view, declared_view, defined_view, head_view, item_view};
 ghost use Rattle.ir_terminals.specs.Role.{class};
@@ -12,8 +12,8 @@ use crate::heads::{global_words, optional_linkage};
 use crate::item::{
     Declaration, Definition, FormalParameters, FunctionHead, Item, WrittenParameter,
 };
-use ir_constants::{begins_type, type_of};
-use ir_instructions::{
+use ir_phrases::constants::{begins_type, type_of};
+use ir_phrases::instructions::{
     WrittenBlock, attachment, blocks_of, convention, function_attributes, parameter_attributes,
 };
 use ir_terminals::{Cursor, Fault, Local, Terminal};

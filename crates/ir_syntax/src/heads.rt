@@ -1,6 +1,6 @@
 //! Reads what stands before the type of a variable, an alias or a function.
 ghost use Rattle.std.specs.Prelude.{◌≡◌};
-ghost use Rattle.phrase_rows.specs.Row.{begins};
+ghost use Rattle.ir_terminals.specs.PhraseRows.Row.{begins};
 ghost use Rattle.ir_syntax.specs.Heads.{optional_linkage_row, global_word_shape, global_word_row, global_words_row, global_head_row};
 ghost use Rattle.ir_syntax.specs.View.{global_view};
 ghost use Rattle.ir_terminals.specs.Follows.{Follows};

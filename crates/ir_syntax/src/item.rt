@@ -1,8 +1,8 @@
 //! Items, as a text writes them.
 
 use ir_base::{ItemList, Place};
-use ir_constants::{Constant, Type};
-use ir_instructions::{SignatureTypes, WrittenBlock};
+use ir_phrases::constants::{Constant, Type};
+use ir_phrases::instructions::{SignatureTypes, WrittenBlock};
 use ir_tables::Linkage;
 use ir_terminals::{Integer, Local, PlacedName, PlacedText};
 

@@ -1,6 +1,6 @@
 //! Reads all items.
 ghost use Rattle.std.specs.Prelude.{◌≡◌, map};
-ghost use Rattle.phrase_rows.specs.Row.{begins, keep_second};
+ghost use Rattle.ir_terminals.specs.PhraseRows.Row.{begins, keep_second};
 ghost use Rattle.ir_syntax.specs.Answers.{Answers, is_end};
 ghost use Rattle.ir_syntax.specs.Items.{source_row, target_row, attributes_row, metadata_name_row, node_row, metadata_item_row, item_shape, item_row, items_row};
 ghost use Rattle.ir_syntax.specs.View.{item_view, items_view};

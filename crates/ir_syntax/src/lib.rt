@@ -1,6 +1,6 @@
 //! The items of a text: reads them all, or tells the first place with which no list of items can go on.
 //!
-//! It stands on the blocks of `ir_instructions`. Its promise: `read_items` gives the items of the text's tokens, and
+//! It stands on the blocks of `ir_phrases::instructions`. Its promise: `read_items` gives the items of the text's tokens, and
 //! no others, or the first bad place with the one right kind. Names and numbers are not joined here. Definitions:
 //! `specs/Items` and the files of rows beside it, `specs/Answers`, `specs/Refusal`.
 //!

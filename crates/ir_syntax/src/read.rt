@@ -12,10 +12,10 @@ ghost use Rattle.ir_syntax.specs.Widths.{opens_nest, is_of_wider, is_first};
 ghost use Rattle.ir_syntax.specs.declared.read.SyntaxFault.{SyntaxFault as TheFault};
 ghost use Rattle.ir_lexer.specs.Ahead.{Located};
 ghost use Rattle.ir_lexer.specs.declared.lexer.TheConstants.{LARGEST};
-ghost use Rattle.phrase_rows.specs.Row.{among};
+ghost use Rattle.ir_terminals.specs.PhraseRows.Row.{among};
 ghost use Rattle.ir_terminals.specs.Position.{text_tokens, tokens_left};
 ghost use Rattle.ir_terminals.specs.Terminal.{code};
-ghost use Rattle.ir_constants.specs.Constants.{holder_shape};
+ghost use Rattle.ir_phrases.specs.Constants.Constants.{holder_shape};
 
 use crate::item::Items;
 use crate::items::all_items;

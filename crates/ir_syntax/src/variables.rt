@@ -1,15 +1,15 @@
 //! Reads variables, and structs that have names.
 ghost use Rattle.std.specs.Prelude.{option_map};
-ghost use Rattle.phrase_rows.specs.Row.{labelled};
-ghost use Rattle.ir_constants.specs.View.{constant_view};
+ghost use Rattle.ir_terminals.specs.PhraseRows.Row.{labelled};
+ghost use Rattle.ir_phrases.specs.Constants.View.{constant_view};
 ghost use Rattle.ir_syntax.specs.Variables.{plain_body_row, packed_body_row, body_row, struct_row, constant_word_row, initialiser_row, tail_row, tail_shape, tails_row, variable_rest_row, variable_row};
 ghost use Rattle.ir_syntax.specs.View.{body_view, global_view, variable_rest_view, item_view};
 ghost use Rattle.ir_terminals.specs.Follows.{Follows};
 
 use crate::heads::GlobalHead;
 use crate::item::{Item, WrittenBody, WrittenVariable};
-use ir_constants::{Constant, constant_of, fields_of, type_of};
-use ir_instructions::{attachment, section};
+use ir_phrases::constants::{Constant, constant_of, fields_of, type_of};
+use ir_phrases::instructions::{attachment, section};
 use ir_tables::Linkage;
 use ir_terminals::{Cursor, Fault, Integer, Terminal};
 

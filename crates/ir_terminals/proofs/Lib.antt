@@ -10,3 +10,4 @@ pub mod Stacks
 pub mod RowsRead
 pub mod Opened
 pub mod Classes
+pub mod OnPhraseRows

@@ -1,7 +1,7 @@
 -- Tokens that are taken one by one.
 use Rattle.std.proofs.Common.{◌≡◌, ◌<◌, List, [], ◌∷◌, length, Some, None, refl, ap, arith}
 use Rattle.ir_lexer.specs.Ahead.{Located}
-use Rattle.phrase_rows.specs.Row.{Done, Bad, TokenMove, On, Ends, Stops, run_machine}
+use Rattle.ir_terminals.specs.PhraseRows.Row.{Done, Bad, TokenMove, On, Ends, Stops, run_machine}
 use Rattle.ir_terminals.specs.Position.{Position, tokens_left, stepped, first_terminal}
 use Rattle.ir_terminals.specs.Role.{terminal}
 use Rattle.ir_terminals.specs.declared.terminal.Terminal.{Terminal}

@@ -2,7 +2,7 @@
 use Rattle.std.proofs.Common.{◌≡◌, ◌==◌, true, false, List, [], ◌∷◌, refl, ap, ◌∙◌, inl, inr}
 use Rattle.std.proofs.lemmas.Bool.{cases_Bool}
 use Rattle.ir_lexer.specs.Ahead.{Located}
-use Rattle.phrase_rows.specs.Row.{Reading, Done, Bad, TokenMove, On, Ends, Stops, begins, run_machine}
+use Rattle.ir_terminals.specs.PhraseRows.Row.{Reading, Done, Bad, TokenMove, On, Ends, Stops, begins, run_machine}
 use Rattle.ir_terminals.specs.Brackets.{is_same, closed, step_by, role, begun_step, matched_row, any_matched_row}
 use Rattle.ir_terminals.specs.Role.{class, terminal}
 use Rattle.ir_terminals.specs.Terminal.{code}

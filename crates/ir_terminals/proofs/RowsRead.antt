@@ -1,10 +1,10 @@
 -- The rows of one token and of brackets are read.
 use Rattle.std.proofs.Common.{◌≡◌, [], ◌∷◌, true, false, refl, inl, inr, ◌==◌}
 use Rattle.std.proofs.lemmas.Bool.{cases_Bool}
-use Rattle.phrase_rows.specs.Reads.{Reads}
-use Rattle.phrase_rows.specs.Row.{Stops, On, among}
-use Rattle.phrase_rows.proofs.Machine.{reads_machine}
-use Rattle.phrase_rows.proofs.Plain.{reads_one}
+use Rattle.ir_terminals.specs.PhraseRows.Reads.{Reads}
+use Rattle.ir_terminals.specs.PhraseRows.Row.{Stops, On, among}
+use Rattle.ir_terminals.proofs.OnPhraseRows.Machine.{reads_machine}
+use Rattle.ir_terminals.proofs.OnPhraseRows.Plain.{reads_one}
 use Rattle.ir_terminals.specs.Brackets.{begun_step, brace_step, braced_row, matched_row}
 use Rattle.ir_terminals.specs.Role.{class, terminal}
 use Rattle.ir_terminals.specs.Terminal.{code, linkage_class, flag_class, predicate_class}

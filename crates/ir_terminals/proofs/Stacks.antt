@@ -1,7 +1,7 @@
 -- Open brackets, the nearest first and the nearest last.
 use Rattle.std.proofs.Common.{◌≡◌, ◌<◌, true, false, List, [], ◌∷◌, ◌++◌, length, refl, sym, ◌∙◌, arith, length-append}
 use denote.Enum.Bare.{sameb}
-use Rattle.phrase_rows.specs.Row.{On, Ends, Stops}
+use Rattle.ir_terminals.specs.PhraseRows.Row.{On, Ends, Stops}
 use Rattle.ir_terminals.specs.Brackets.{is_same, closed, step_by, nearest_first}
 use Rattle.ir_terminals.specs.contracts.brackets.Bracket.{the_type}
 use Rattle.ir_terminals.specs.declared.brackets.Bracket.{Bracket}

@@ -8,7 +8,7 @@ use Rattle.ir_lexer.specs.Table.{TokenRow as LexerRow, SpellsRow, kind_of, IsTok
 use Rattle.ir_lexer.specs.Tokens.{Spelled}
 use Rattle.ir_lexer.specs.declared.token.TokenKind.{TokenKind}
 use Rattle.ir_lexer.specs.declared.token.TokenKind.TheVariants as kind
-use Rattle.phrase_rows.specs.Row.{Done, Row, among, begins, one}
+use Rattle.ir_terminals.specs.PhraseRows.Row.{Done, Row, among, begins, one}
 use Rattle.ir_terminals.specs.Position.{Position, text_tokens, tokens_left, stepped, first_kind, first_place, first_spelling, first_terminal, IsFirstToken}
 use Rattle.ir_terminals.specs.Role.{class, terminal, terminal_in}
 use Rattle.ir_terminals.specs.Terminal.{code}

@@ -1,7 +1,7 @@
 -- For `skip_brackets` and `skip_braced` of `Cursor`: brackets and all that stands in them, as rows.
 use Rattle.std.specs.Prelude.{ℕ, ◌==◌, Bool, true, false, List, [], ◌∷◌, ◌++◌, if◌then◌else◌}
 use Rattle.ir_lexer.specs.Ahead.{Located}
-use Rattle.phrase_rows.specs.Row.{Row, TokenMove, On, Ends, Stops, machine}
+use Rattle.ir_terminals.specs.PhraseRows.Row.{Row, TokenMove, On, Ends, Stops, machine}
 use Rattle.ir_terminals.specs.Role.{terminal}
 use Rattle.ir_terminals.specs.Terminal.{code}
 use Rattle.ir_terminals.specs.declared.brackets.Bracket.{Bracket}

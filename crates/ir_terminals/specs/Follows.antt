@@ -1,7 +1,7 @@
 -- For the calls that move a `Cursor`: what such a call gives.
 use Rattle.std.specs.Prelude.{◌≡◌, Result, Ok, Err}
 use Rattle.ir_lexer.specs.Ahead.{Located}
-use Rattle.phrase_rows.specs.Row.{Reading, Done, Bad, Row}
+use Rattle.ir_terminals.specs.PhraseRows.Row.{Reading, Done, Bad, Row}
 use Rattle.ir_terminals.specs.Position.{Position, tokens_left}
 use Rattle.ir_terminals.specs.declared.fault.Fault.{Fault}
 use Rattle.ir_terminals.specs.declared.fault.Fault.TheVariants as faults

@@ -12,3 +12,4 @@ pub mod Follows
 pub mod Tokens
 pub mod Brackets
 pub mod LeftOut
+pub mod PhraseRows

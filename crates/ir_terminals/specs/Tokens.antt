@@ -5,7 +5,7 @@ use Rattle.ir_lexer.specs.Ahead.{Located}
 use Rattle.ir_tables.specs.declared.flag.Flag.{Flag}
 use Rattle.ir_tables.specs.declared.linkage.Linkage.{Linkage}
 use Rattle.ir_tables.specs.declared.predicate.Predicate.{Predicate}
-use Rattle.phrase_rows.specs.Row.{Row, one}
+use Rattle.ir_terminals.specs.PhraseRows.Row.{Row, one}
 use Rattle.ir_terminals.specs.Role.{class}
 use Rattle.ir_terminals.specs.Values.{place_of_token, integer_of, name_of_global, local_of, named_local_of, label_of, text_of, bytes_of, linkage_of, flag_of, predicate_of}
 use Rattle.ir_terminals.specs.Terminal.{code, linkage_class, flag_class, predicate_class}

@@ -7,7 +7,7 @@ ghost use Rattle.ir_terminals.specs.Position.{text_tokens, tokens_left, first_ki
 ghost use Rattle.ir_terminals.specs.Front.{IsFrontOf, front_of, token_in};
 ghost use Rattle.ir_terminals.specs.Role.{class, terminal};
 ghost use Rattle.ir_terminals.specs.Terminal.{code};
-ghost use Rattle.phrase_rows.specs.Row.{begins};
+ghost use Rattle.ir_terminals.specs.PhraseRows.Row.{begins};
 
 use crate::limits::Limits;
 use crate::role::terminal_of;

@@ -1,8 +1,13 @@
 //! The tokens of a text as the phrases of the language see them, and a cursor that goes over them.
 //!
-//! It stands on `ir_base`, `ir_lexer`, `ir_tables` and `phrase_rows`. Its promise: each reading call follows its row of
+//! It stands on `ir_base`, `ir_lexer`, `ir_tables` and `ir_terminals::phrase_rows`. Its promise: each reading call follows its row of
 //! one token or of matching brackets, whatever stands behind it. What phrases are made of tokens is not its concern.
 //! Definitions: `specs/Words`, `specs/Terminal`, `specs/Values`, `specs/Position`, `specs/Tokens`, `specs/LeftOut`.
+//!
+//! Its modules:
+//!
+//! - `phrase_rows`: The rows of a grammar as values: what a row's whole phrases are, with their
+//!   values, what its cut phrases are, how it is read, and the lemma that the reader reads the row.
 //!
 //! ```
 //! let limits = Limits { nesting: 64, with_left_out: false };
@@ -21,6 +26,7 @@ mod fault;
 mod left_out;
 mod limits;
 mod number;
+pub mod phrase_rows;
 mod reading;
 mod role;
 mod terminal;

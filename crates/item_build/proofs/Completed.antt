@@ -6,7 +6,7 @@ use Rattle.std.specs.Option.{option_map}
 use Rattle.std.proofs.lemmas.List.{map-append}
 use Rattle.std.proofs.lemmas.List.Elements.{filter_map-append}
 use Rattle.std.proofs.lemmas.Option.{slice_get-map}
-use Rattle.ir_constants.specs.Tree.{ConstantTree}
+use Rattle.ir_phrases.specs.Constants.Tree.{ConstantTree}
 use Rattle.ir_syntax.specs.Tree.{VariableTree, ItemTree, SourceFilename, DataLayout, TargetTriple, Struct, Variable, Alias, Declaration, Definition, Attributes, Metadata}
 use Rattle.type_table.specs.Types.{trees}
 use Rattle.module_arena.specs.declared.entry.Variable as the_variable
@@ -18,7 +18,7 @@ use Rattle.module_arena.specs.WellFormed as formed
 use Rattle.module_arena.proofs.Found.{some-equal}
 use Rattle.name_rules.specs.ModuleOf.{variable_of, variable_in, alias_of, alias_in}
 use Rattle.name_rules.specs.Written.{type_in, constant_in}
-use Rattle.type_build.specs.Declarations.{without_initialiser, without_target}
+use Rattle.item_build.specs.Types.Declarations.{without_initialiser, without_target}
 use Rattle.item_build.specs.Declaring.{declared_variables, declared_aliases}
 use Rattle.item_build.specs.Completing.{targeted_in, initialised_in, with_targets, with_initialisers}
 use Rattle.item_build.proofs.Walked.{gives_one, gives_none, get_between, changed_between}

@@ -13,12 +13,12 @@ use Rattle.module_arena.specs.Module as m
 use Rattle.module_arena.specs.View.{module_of, variable_view, alias_view, function_view, constants_of}
 use Rattle.module_arena.specs.WellFormed as formed
 use Rattle.name_rules.specs.ModuleOf.{variable_of, variable_in, alias_of, alias_in, declared, defined, function_in}
-use Rattle.type_build.specs.Holding.{entries}
-use Rattle.type_build.specs.Declarations.{without_initialiser, without_target, AreUntargeted}
-use Rattle.type_build.specs.Parameters.{without_body}
+use Rattle.item_build.specs.Types.Holding.{entries}
+use Rattle.item_build.specs.Types.Declarations.{without_initialiser, without_target, AreUntargeted}
+use Rattle.item_build.specs.Types.Parameters.{without_body}
 use Rattle.item_build.specs.Declaring.{declared_in, with_entries, with_declared, AreNamed}
 use Rattle.item_build.proofs.Walked.{gives_one, gives_none, get_between}
-use Rattle.type_build.proofs.Made.{map_twice}
+use Rattle.item_build.proofs.OnTypes.Made.{map_twice}
 
 module _ {Y : Type 0} (h : ItemTree → Option Y) (f : Y → Y) (first : List ItemTree) (x : ItemTree) where
   one : (y : Y) → h x ≡ Some y → map f (filter_map h first) ++ f y ∷ [] ≡ map f (filter_map h (first ++ x ∷ []))

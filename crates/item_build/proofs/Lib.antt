@@ -9,3 +9,4 @@ pub mod Declared
 pub mod Completed
 pub mod ModuleTexts
 pub mod Placing
+pub mod OnTypes

@@ -17,9 +17,9 @@ use Rattle.module_arena.proofs.Found.{some-equal}
 use Rattle.name_rules.specs.ModuleOf.{struct_in, structs_in}
 use Rattle.name_rules.specs.Written.{body_in}
 use Rattle.name_rules.proofs.Fine.{EachStruct, StructWithin}
-use Rattle.type_build.proofs.Staying.{names_same}
-use Rattle.type_build.proofs.Made.{map_twice}
-use Rattle.buildable.specs.Entries.{CanDeclare}
+use Rattle.item_build.proofs.OnTypes.Staying.{names_same}
+use Rattle.item_build.proofs.OnTypes.Made.{map_twice}
+use Rattle.item_build.specs.Buildable.Entries.{CanDeclare}
 use Rattle.item_build.proofs.NamedItems.{distinct_front, contained}
 use Rattle.item_build.proofs.Walked.{gives_one, gives_none, parted, length_parted, get_between}
 use Rattle.item_build.specs.Named.{named_table, named_in, IsNewStruct, CanDefineItem, AreDone}

@@ -24,11 +24,11 @@ use Rattle.module_arena.specs.View.{module_of, variable_view, alias_view, functi
 use Rattle.module_arena.specs.WellFormed as formed
 use Rattle.name_rules.specs.Breaks as breaks
 use Rattle.name_rules.specs.ModuleOf.{variable_in, alias_in, function_in}
-use Rattle.type_build.specs.Holding.{entries, HasEntry}
-use Rattle.buildable.specs.Laws.{global_names, HasEntries}
+use Rattle.item_build.specs.Types.Holding.{entries, HasEntry}
+use Rattle.item_build.specs.Buildable.Laws.{global_names, HasEntries}
 use Rattle.item_build.specs.Declaring.{IsNewName, AreNamed}
 use Rattle.item_build.proofs.Walked.{parted}
-use Rattle.type_build.proofs.Made.{map_twice}
+use Rattle.item_build.proofs.OnTypes.Made.{map_twice}
 
 bytes_turn : (a b : Bytes) → bytes_eq a b ≡ bytes_eq b a
 bytes_turn a b = by (bytes_eq a b) (bytes_eq b a) refl refl

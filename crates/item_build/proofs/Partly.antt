@@ -6,7 +6,7 @@ use Rattle.std.proofs.lemmas.List.{length-map}
 use Rattle.std.proofs.lemmas.List.Elements.{All-append, All-map, All-weaker, All-get_or}
 use Rattle.std.proofs.lemmas.Option.{get_or_from_slice_get, slice_get-map}
 use Rattle.ir_syntax.specs.Tree.{BodyTree, OpaqueBody, PlainBody, PackedBody}
-use Rattle.ir_constants.specs.Tree.{TypeTree}
+use Rattle.ir_phrases.specs.Constants.Tree.{TypeTree}
 use Rattle.type_table.specs.declared.fault.TypeFault.{TypeFault}
 use Rattle.type_table.specs.declared.fault.TypeFault.TheVariants.{Duplicate, SelfContaining, TooDeep, TooLarge, Memory}
 use Rattle.type_table.specs.declared.ir_type.StructBody.{StructBody}
@@ -23,10 +23,10 @@ use Rattle.module_arena.specs.Module.{Module}
 use Rattle.module_arena.specs.View.{module_of}
 use Rattle.module_arena.proofs.Found.{some-equal}
 use Rattle.name_rules.specs.Written.{type_in, body_in}
-use Rattle.type_build.specs.Fitting.{CanBe, AllCanBe, AreWithin}
-use Rattle.type_build.specs.Stands.{Grows}
-use Rattle.type_build.proofs.Staying.{names_same, structs_stay}
-use Rattle.buildable.specs.Entries.{CanStruct}
+use Rattle.item_build.specs.Types.Fitting.{CanBe, AllCanBe, AreWithin}
+use Rattle.item_build.specs.Types.Stands.{Grows}
+use Rattle.item_build.proofs.OnTypes.Staying.{names_same, structs_stay}
+use Rattle.item_build.specs.Buildable.Entries.{CanStruct}
 use Rattle.item_build.specs.Partly.{names_of, body_at, IsPartly, AllFit, IsDone, CanDefine, with_structs}
 use Rattle.item_build.proofs.Lessened.{within_less, AreLess}
 use Rattle.item_build.proofs.Ended.{ended}

@@ -12,8 +12,8 @@ use Rattle.module_arena.specs.Lists.{Lists, name_at}
 use Rattle.module_arena.specs.Module.{Module}
 use Rattle.module_arena.specs.View.{module_of, variable_view, alias_view, function_view, constants_of}
 use Rattle.name_rules.specs.ModuleOf.{variable_in, alias_in, function_in}
-use Rattle.type_build.specs.Declarations.{AreFew, without_initialiser, without_target}
-use Rattle.type_build.specs.Parameters.{without_body}
+use Rattle.item_build.specs.Types.Declarations.{AreFew, without_initialiser, without_target}
+use Rattle.item_build.specs.Types.Parameters.{without_body}
 use Rattle.item_build.specs.Declaring.{with_declared, HasRoom, counts_in}
 use Rattle.item_build.proofs.Walked.{length_parted}
 

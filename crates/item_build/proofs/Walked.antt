@@ -7,7 +7,7 @@ use Rattle.std.proofs.lemmas.List.{map-append, map_more, take-append-drop, drop_
 use Rattle.std.proofs.lemmas.List.Elements.{filter_map-append}
 use Rattle.std.proofs.lemmas.Option.{get_or_from_slice_get, slice_get_within}
 use Rattle.module_arena.specs.Changes.{changed_at}
-use Rattle.type_build.proofs.Staying.{at_item}
+use Rattle.item_build.proofs.OnTypes.Staying.{at_item}
 
 module _ {X Y : Type 0} (f : X → Y) (xs : List X) (i : ℕ) (x : X) (lt : i < length xs) (is : x ≡ get_or xs i x) where
   pub view_more : map f (take (i + 1) xs) ≡ map f (take i xs) ++ f x ∷ []

@@ -1,6 +1,6 @@
 -- For `initialise_items` and `set_targets`: items that complete the entries of a module, one after the other.
 use Rattle.std.specs.Prelude.{ℕ, ◌+◌, List, ◌++◌, filter_map, length, Option, Some, None, option_to_list}
-use Rattle.ir_constants.specs.Tree.{ConstantTree}
+use Rattle.ir_phrases.specs.Constants.Tree.{ConstantTree}
 use Rattle.ir_syntax.specs.Tree.{ItemTree, Variable, Alias}
 use Rattle.type_table.specs.Tree.{Tree}
 use Rattle.module_arena.specs.Changes.{initialised, targeted}

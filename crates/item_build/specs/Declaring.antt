@@ -9,8 +9,8 @@ use Rattle.module_arena.specs.Module as m
 use Rattle.module_arena.specs.Module.{Module}
 use Rattle.module_arena.specs.WellFormed.{global_names}
 use Rattle.name_rules.specs.ModuleOf.{variable_of, variable_in, alias_of, alias_in, declared, defined, function_in, module_of_items}
-use Rattle.type_build.specs.Declarations.{IsFree, AreFew, one_variable_more, one_alias_more, one_function_more, without_initialiser, without_target}
-use Rattle.type_build.specs.Parameters.{without_body}
+use Rattle.item_build.specs.Types.Declarations.{IsFree, AreFew, one_variable_more, one_alias_more, one_function_more, without_initialiser, without_target}
+use Rattle.item_build.specs.Types.Parameters.{without_body}
 
 -- the item as it is declared: without its initialiser, its target or its blocks
 abbrev pub declared_in : Module → ItemTree → Module

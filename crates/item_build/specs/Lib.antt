@@ -4,3 +4,5 @@ pub mod Declaring
 pub mod Completing
 pub mod Texts
 pub mod Places
+pub mod Types
+pub mod Buildable

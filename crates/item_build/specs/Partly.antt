@@ -9,8 +9,8 @@ use Rattle.type_table.specs.Types.{structs, bodies, trees, tree_body}
 use Rattle.module_arena.specs.Lists.{Lists}
 use Rattle.module_arena.specs.Module.{Module}
 use Rattle.name_rules.specs.Written.{body_in}
-use Rattle.type_build.specs.Fitting.{AreWithin}
-use Rattle.buildable.specs.Entries.{CanStruct}
+use Rattle.item_build.specs.Types.Fitting.{AreWithin}
+use Rattle.item_build.specs.Buildable.Entries.{CanStruct}
 
 -- the names of structs, in order
 abbrev pub names_of : Structs → List (List ℕ)

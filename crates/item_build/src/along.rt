@@ -4,15 +4,15 @@ ghost use Rattle.ir_syntax.specs.View.{item_view, items_view};
 ghost use Rattle.type_table.specs.Types.{structs};
 ghost use Rattle.module_arena.specs.View.{module_of};
 ghost use Rattle.name_rules.specs.ModuleOf.{struct_in, structs_in};
-ghost use Rattle.type_build.specs.Holding.{entries};
-ghost use Rattle.buildable.specs.Laws.{AreBuildable};
+ghost use Rattle.item_build.specs.Types.Holding.{entries};
+ghost use Rattle.item_build.specs.Buildable.Laws.{AreBuildable};
 ghost use Rattle.item_build.specs.Partly.{IsPartly, AllFit, with_structs};
 ghost use Rattle.item_build.specs.Places.{ArePlaces};
 
 use crate::building::define_item;
+use crate::types::Builder;
 use ir_syntax::Item;
 use std::alloc::{AllocError, Global};
-use type_build::Builder;
 
 /// Adds the place of the item, where that is a struct.
 fn add_place(places: &mut Vec<usize>, place: usize, item: &Item) -> Result<(), AllocError>

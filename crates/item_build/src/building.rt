@@ -6,17 +6,17 @@ ghost use Rattle.type_table.specs.Types.{structs, no_types};
 ghost use Rattle.module_arena.specs.View.{module_of};
 ghost use Rattle.name_rules.specs.Breaks.{first_break};
 ghost use Rattle.name_rules.specs.ModuleOf.{structs_in};
-ghost use Rattle.type_build.specs.Holding.{entries};
-ghost use Rattle.buildable.specs.Laws.{AreBuildable};
+ghost use Rattle.item_build.specs.Types.Holding.{entries};
+ghost use Rattle.item_build.specs.Buildable.Laws.{AreBuildable};
 ghost use Rattle.item_build.specs.Named.{CanDefineItem, struct_behind, AreDone};
 ghost use Rattle.item_build.specs.Partly.{IsPartly, AllFit, with_structs};
 
 use crate::along::define_along;
 use crate::defining::define_struct;
 use crate::naming::name_structs;
+use crate::types::Builder;
 use ir_syntax::Item;
 use std::alloc::{AllocError, Global};
-use type_build::Builder;
 
 /// Gives the struct with that number its body, where the item is one, and tells the next number.
 pub(crate) fn define_item(

@@ -8,15 +8,17 @@ ghost use Rattle.module_arena.specs.Lists.{no_lists};
 ghost use Rattle.module_arena.specs.View.{module_of};
 ghost use Rattle.name_rules.specs.Breaks.{global_name};
 ghost use Rattle.name_rules.specs.ModuleOf.{structs_in};
-ghost use Rattle.type_build.specs.Holding.{entries};
-ghost use Rattle.type_build.specs.Declarations.{AreFew, AreUntargeted};
-ghost use Rattle.buildable.specs.Entries.{CanDeclare};
-ghost use Rattle.buildable.specs.Laws.{AreBuildable};
+ghost use Rattle.item_build.specs.Types.Holding.{entries};
+ghost use Rattle.item_build.specs.Types.Declarations.{AreFew, AreUntargeted};
+ghost use Rattle.item_build.specs.Buildable.Entries.{CanDeclare};
+ghost use Rattle.item_build.specs.Buildable.Laws.{AreBuildable};
 ghost use Rattle.item_build.specs.Declaring.{declared_in, with_declared, IsNewName, HasRoom, counts_in};
 
+use crate::types::{
+    Builder, declare_alias, declare_definition, declare_function, declare_variable,
+};
 use ir_syntax::Item;
 use std::alloc::{AllocError, Global};
-use type_build::{Builder, declare_alias, declare_definition, declare_function, declare_variable};
 
 /// Declares the variable, alias or function that the item is; another item declares nothing.
 fn declare_item(builder: &mut Builder, alloc: Global, item: &Item) -> Result<(), AllocError>

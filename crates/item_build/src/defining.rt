@@ -5,15 +5,15 @@ ghost use Rattle.type_table.specs.Tree.{Structs};
 ghost use Rattle.type_table.specs.Types.{structs, trees, tree_body, IsKnownBody};
 ghost use Rattle.module_arena.specs.View.{module_of};
 ghost use Rattle.name_rules.specs.Written.{body_in};
-ghost use Rattle.type_build.specs.Fitting.{AreWithin};
-ghost use Rattle.type_build.specs.Holding.{entries};
-ghost use Rattle.type_build.specs.Stands.{Grows};
-ghost use Rattle.buildable.specs.Entries.{CanStruct};
+ghost use Rattle.item_build.specs.Types.Fitting.{AreWithin};
+ghost use Rattle.item_build.specs.Types.Holding.{entries};
+ghost use Rattle.item_build.specs.Types.Stands.{Grows};
+ghost use Rattle.item_build.specs.Buildable.Entries.{CanStruct};
 ghost use Rattle.item_build.specs.Partly.{IsPartly, IsDone, CanDefine, with_structs};
 
+use crate::types::{Builder, type_out_of_memory};
 use ir_syntax::WrittenBody;
 use std::alloc::{AllocError, Global};
-use type_build::{Builder, type_out_of_memory};
 use type_table::StructId;
 
 /// What the text writes of a struct, its fields added.

@@ -1,24 +1,24 @@
 //! Gives the variables of a text their initialisers.
 ghost use Rattle.std.specs.Prelude.{◌≡◌, ◌<◌, ◌≤◌, ◌^◌, ◌-◌, ◌+◌, [], length, slice_get, Some, None, OnOk, IfOk};
-ghost use Rattle.ir_constants.specs.View.{type_view};
+ghost use Rattle.ir_phrases.specs.Constants.View.{type_view};
 ghost use Rattle.ir_syntax.specs.View.{variable_view, item_view, items_view};
 ghost use Rattle.type_table.specs.Types.{structs};
 ghost use Rattle.module_arena.specs.View.{module_of};
 ghost use Rattle.module_arena.specs.declared.entry.Variable as the_variable;
 ghost use Rattle.name_rules.specs.ModuleOf.{structs_in};
 ghost use Rattle.name_rules.specs.Written.{type_in};
-ghost use Rattle.type_build.specs.Fitting.{CanBe};
-ghost use Rattle.type_build.specs.Holding.{entries};
-ghost use Rattle.type_build.specs.Declarations.{AreFew};
-ghost use Rattle.buildable.specs.Entries.{CanDeclare, CanInitialise, CanComplete};
-ghost use Rattle.buildable.specs.Laws.{AreBuildable};
+ghost use Rattle.item_build.specs.Types.Fitting.{CanBe};
+ghost use Rattle.item_build.specs.Types.Holding.{entries};
+ghost use Rattle.item_build.specs.Types.Declarations.{AreFew};
+ghost use Rattle.item_build.specs.Buildable.Entries.{CanDeclare, CanInitialise, CanComplete};
+ghost use Rattle.item_build.specs.Buildable.Laws.{AreBuildable};
 ghost use Rattle.item_build.specs.Declaring.{declared_variables, AreNamed, counts_in};
 ghost use Rattle.item_build.specs.Completing.{initialised_by, initialised_in, variable_behind, with_initialisers};
 
+use crate::types::{Builder, initialise};
 use ir_syntax::{Item, WrittenVariable};
 use module_arena::VariableId;
 use std::alloc::{AllocError, Global};
-use type_build::{Builder, initialise};
 
 /// Gives the variable with that number its initialiser, where one is written.
 fn initialise_variable(

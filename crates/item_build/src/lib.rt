@@ -1,9 +1,15 @@
 //! The items of a text, made in an arena: its structs, named and defined, its texts, and its entries one after the other.
 //!
-//! It stands on `type_build`, and on what `buildable` asks for. It promises that a struct which is defined has the fields
+//! It stands on `item_build::types`, and on what `item_build::buildable` asks for. It promises that a struct which is defined has the fields
 //! that the text writes, that each entry is the one that its item writes, that nothing else of the module changes, and that only
 //! memory may be wanting: structs of which some have no body yet are never deeper or larger than the whole. Definitions:
 //! `specs/Partly`, `specs/Named`, `specs/Places`, `specs/Declaring`, `specs/Completing`, `specs/Texts`.
+//!
+//! Its modules:
+//!
+//! - `types`: The types, constants and entries of a text, as those of an arena.
+//! - `buildable`: What an arena asks for where the items of a text are built in it: definitions
+//!   alone.
 //!
 //! ```
 //! let items = read_items(alloc, b"%pair = type { i8, i32 }\n@a = global %pair zeroinitializer")?;
@@ -15,6 +21,7 @@
 #![tactic(auto)]
 
 mod along;
+pub mod buildable;
 mod building;
 mod declaring;
 mod defining;
@@ -22,6 +29,7 @@ mod initialisers;
 mod naming;
 mod targets;
 mod texts;
+pub mod types;
 
 pub use building::build_structs;
 pub use declaring::declare_items;

@@ -4,14 +4,14 @@ ghost use Rattle.ir_syntax.specs.View.{item_view, items_view};
 ghost use Rattle.type_table.specs.Types.{structs, no_types};
 ghost use Rattle.module_arena.specs.View.{module_of};
 ghost use Rattle.name_rules.specs.ModuleOf.{structs_in};
-ghost use Rattle.type_build.specs.Holding.{entries};
-ghost use Rattle.buildable.specs.Laws.{AreBuildable};
+ghost use Rattle.item_build.specs.Types.Holding.{entries};
+ghost use Rattle.item_build.specs.Buildable.Laws.{AreBuildable};
 ghost use Rattle.item_build.specs.Named.{named_table, named_in, IsNewStruct};
 ghost use Rattle.item_build.specs.Partly.{with_structs};
 
+use crate::types::{Builder, type_out_of_memory};
 use ir_syntax::Item;
 use std::alloc::{AllocError, Global};
-use type_build::{Builder, type_out_of_memory};
 
 /// Names the struct that the item is; another item names none.
 fn name_item(builder: &mut Builder, alloc: Global, item: &Item) -> Result<(), AllocError>

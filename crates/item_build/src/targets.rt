@@ -4,17 +4,17 @@ ghost use Rattle.ir_syntax.specs.View.{item_view, items_view};
 ghost use Rattle.type_table.specs.Types.{structs};
 ghost use Rattle.module_arena.specs.View.{module_of};
 ghost use Rattle.name_rules.specs.ModuleOf.{structs_in};
-ghost use Rattle.type_build.specs.Holding.{entries};
-ghost use Rattle.type_build.specs.Declarations.{AreFew, AreUntargeted};
-ghost use Rattle.buildable.specs.Entries.{CanComplete};
-ghost use Rattle.buildable.specs.Laws.{AreBuildable};
+ghost use Rattle.item_build.specs.Types.Holding.{entries};
+ghost use Rattle.item_build.specs.Types.Declarations.{AreFew, AreUntargeted};
+ghost use Rattle.item_build.specs.Buildable.Entries.{CanComplete};
+ghost use Rattle.item_build.specs.Buildable.Laws.{AreBuildable};
 ghost use Rattle.item_build.specs.Declaring.{declared_aliases, AreNamed, counts_in};
 ghost use Rattle.item_build.specs.Completing.{targeted_in, alias_behind, with_targets};
 
+use crate::types::{Builder, set_target};
 use ir_syntax::Item;
 use module_arena::AliasId;
 use std::alloc::{AllocError, Global};
-use type_build::{Builder, set_target};
 
 /// Gives the alias with that number its target, where the item is one, and tells the next number.
 fn set_target_in(

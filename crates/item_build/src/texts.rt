@@ -4,14 +4,14 @@ ghost use Rattle.std.specs.Option.{option_copied};
 ghost use Rattle.ir_syntax.specs.View.{item_view, items_view};
 ghost use Rattle.module_arena.specs.View.{module_of};
 ghost use Rattle.name_rules.specs.ModuleOf.{source_in, layout_in, triple_in, text_in};
-ghost use Rattle.type_build.specs.Holding.{entries};
+ghost use Rattle.item_build.specs.Types.Holding.{entries};
 ghost use Rattle.item_build.specs.Texts.{with_texts};
 
+use crate::types::Builder;
 use ir_base::Text;
 use ir_syntax::Item;
 use ir_terminals::PlacedText;
 use std::alloc::{AllocError, Global};
-use type_build::Builder;
 
 /// What the item says of the source, where it does.
 fn source_of(item: &Item) -> Option<&PlacedText>

@@ -14,7 +14,7 @@ use Rattle.linkage_rules.specs.Grouped.{AreIds}
 use Rattle.linkage_rules.specs.Ids.{modules, seen}
 use Rattle.linkage_rules.specs.Lists.{has}
 use Rattle.linkage_rules.proofs.Steps.{map_step, take_more}
-use Rattle.module_linker.specs.Rename.{all_names, shared_names}
+use Rattle.link_rules.specs.Rename.{all_names, shared_names}
 use Rattle.link_names.specs.Naming.{HasMore, HasOneMore}
 
 turned : (a b c : Bool) → (b || (a || c)) ≡ ((a || b) || c)

@@ -3,8 +3,8 @@ use Rattle.std.proofs.Common.{◌≡◌, ◌⊎◌, inl, inr, ℕ, zero, suc, �
 use Rattle.std.proofs.lemmas.Bool.{both_ways, cases_lt, cases_order, false_from_ne_true}
 use Rattle.module_arena.specs.Module.{Bytes}
 use Rattle.linkage_rules.specs.Lists.{has}
-use Rattle.module_linker.specs.Rename.{dotted, least, fresh}
-use Rattle.module_linker.proofs.Names.{fresh_free}
+use Rattle.link_rules.specs.Rename.{dotted, least, fresh}
+use Rattle.link_rules.proofs.Names.{fresh_free}
 use Rattle.link_names.specs.Naming.{SameNames, AllTaken}
 
 pub first_or_later : (a b : ℕ) → a ≤ b → (b ≡ a) ⊎ (suc a ≤ b)

@@ -10,7 +10,7 @@ use Rattle.linkage_rules.specs.declared.symbol.Symbol.{Symbol}
 use Rattle.linkage_rules.specs.declared.symbol.Symbol.TheVariants.{Shared, Local}
 use Rattle.linkage_rules.specs.Symbols.{symbols}
 use Rattle.linkage_rules.proofs.Steps.{drop_more, drop_whole}
-use Rattle.module_linker.specs.Rename.{all_names, base_of, with_given_names, new_name, renaming, shared_names}
+use Rattle.link_rules.specs.Rename.{all_names, base_of, with_given_names, new_name, renaming, shared_names}
 use Rattle.link_names.specs.Naming.{GivesName, HasMore, TakenNames, SameNames, is_shared}
 use Rattle.link_names.proofs.FirstFree.{fresh_same}
 

@@ -7,7 +7,7 @@ use Rattle.std.proofs.lemmas.Option.{same_Some}
 use Rattle.std.proofs.lemmas.List.Folds.{list_any-append}
 use Rattle.module_arena.specs.Module.{Bytes}
 use Rattle.linkage_rules.specs.Lists.{has}
-use Rattle.module_linker.specs.Rename.{dotted}
+use Rattle.link_rules.specs.Rename.{dotted}
 use Rattle.linkage_rules.specs.SymbolLaws.{name_exact}
 use Rattle.link_names.specs.Naming.{HasOneMore, AllTaken, AreHints}
 

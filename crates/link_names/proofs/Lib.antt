@@ -3,3 +3,7 @@ mod Hints
 mod Numbers
 pub mod Avoided
 pub mod Given
+pub mod OnShapes
+pub mod OnStructs
+pub mod OnRows
+pub mod OnCounts

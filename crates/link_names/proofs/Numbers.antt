@@ -8,7 +8,7 @@ use Rattle.std.proofs.lemmas.Fmt.{decimal_by_steps}
 use Rattle.std.proofs.lemmas.Int.Digits.{digits_of_step}
 use Rattle.ir_base.specs.Name.{IsName}
 use Rattle.module_arena.specs.Module.{Bytes}
-use Rattle.module_linker.specs.Rename.{dotted}
+use Rattle.link_rules.specs.Rename.{dotted}
 
 abbrev glyph : ℕ → ℕ
 glyph d = d + 48

@@ -1,1 +1,5 @@
 pub mod Naming
+pub mod Shapes
+pub mod Structs
+pub mod Rows
+pub mod Counts

@@ -6,7 +6,7 @@ use Rattle.module_arena.specs.Module.{Bytes}
 use Rattle.linkage_rules.specs.Lists.{has}
 use Rattle.linkage_rules.specs.declared.symbol.Symbol.{Symbol}
 use Rattle.linkage_rules.specs.declared.symbol.Symbol.TheVariants.{Shared, Local}
-use Rattle.module_linker.specs.Rename.{base_of, dotted, new_name}
+use Rattle.link_rules.specs.Rename.{base_of, dotted, new_name}
 
 -- the names that were given, and those that no name with a number is to be
 pub record TakenNames : Type 0 where

@@ -1,7 +1,7 @@
 //! Names that are given one after another, so that no two are one.
 ghost use Rattle.std.specs.Prelude.{◌≡◌, ◌+◌, ◌≤◌, [], length, bytes_eq, false, IfOk, OnOk, OnErr};
 ghost use Rattle.linkage_rules.specs.Lists.{has};
-ghost use Rattle.module_linker.specs.Rename.{dotted, fresh, new_name};
+ghost use Rattle.link_rules.specs.Rename.{dotted, fresh, new_name};
 ghost use Rattle.link_names.specs.Naming.{AllTaken, HasOneMore, taken};
 
 use crate::numbered::dotted;

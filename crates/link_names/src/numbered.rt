@@ -1,7 +1,7 @@
 //! Names with a number behind them.
 ghost use Rattle.std.specs.Prelude.{◌≡◌, ◌<◌, IfOk};
 ghost use Rattle.ir_base.specs.Name.{IsName};
-ghost use Rattle.module_linker.specs.Rename.{base_of, dotted};
+ghost use Rattle.link_rules.specs.Rename.{base_of, dotted};
 
 use ir_base::{Name, Text};
 use itoa::Buffer;

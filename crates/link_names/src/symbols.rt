@@ -5,7 +5,7 @@ ghost use Rattle.linkage_rules.specs.Entries.{symbol_name};
 ghost use Rattle.linkage_rules.specs.Globals.{name_of};
 ghost use Rattle.linkage_rules.specs.Ids.{IsEntryId, modules, seen};
 ghost use Rattle.linkage_rules.specs.Symbols.{symbols as all_symbols};
-ghost use Rattle.module_linker.specs.Rename.{all_names, renaming, shared_names};
+ghost use Rattle.link_rules.specs.Rename.{all_names, renaming, shared_names};
 ghost use Rattle.link_names.specs.Naming.{HasMore, GivesName, is_shared};
 
 use crate::Naming;

@@ -17,3 +17,4 @@ pub mod Rows
 pub mod AliasParts
 pub mod AliasRows
 pub mod KindsAmong
+pub mod OnResolving

@@ -14,3 +14,5 @@ pub mod Heads
 pub mod Elements
 pub mod Grouped
 pub mod Resolved
+pub mod Contents
+pub mod Resolving

@@ -5,6 +5,12 @@
 //! `specs/Entries`, `Linkages`, `Winner`, `Symbols`, `Conflicts`, and of the answer `Resolved`; for runs `Bind` and
 //! `Addresses`.
 //!
+//! Its modules:
+//!
+//! - `contents`: What variables of several parts hold at first: definitions alone.
+//! - `resolving`: What names mean, and where symbols stand, when several parts are linked, or run
+//!   together.
+//!
 //! ```
 //! // of the parts `declare void @f()` and `define void @f() { ret void }`
 //! let bindings = resolve_symbols(alloc, parts)?;
@@ -17,12 +23,14 @@ mod address;
 mod bindings;
 mod clash;
 mod conflict;
+pub mod contents;
 mod entry;
 mod gather;
 mod groups;
 mod homes;
 mod linkage;
 mod order;
+pub mod resolving;
 mod symbol;
 
 pub use address::{FIRST_ADDRESS, FIRST_FUNCTION, FUNCTION_STEP, GAP};

@@ -15,8 +15,8 @@ use Rattle.linkage_rules.specs.Globals.{name_of, linkage_of}
 use Rattle.linkage_rules.specs.Linkages.{is_local}
 use Rattle.linkage_rules.specs.Lists.{has, pairs}
 use Rattle.linkage_rules.specs.Symbols.{symbols}
-use Rattle.module_linker.proofs.Agreed.{AreDistinct, filter_at, all_from_at, nothing_from, nothing_mapped, none_passes, first_none, is_symbol, same_place, entries_apart, one_place, symbol_parts, agreed, pair_at, pairs_behind}
-use Rattle.module_linker.proofs.Apart.{at_has}
+use Rattle.link_rules.proofs.Agreed.{AreDistinct, filter_at, all_from_at, nothing_from, nothing_mapped, none_passes, first_none, is_symbol, same_place, entries_apart, one_place, symbol_parts, agreed, pair_at, pairs_behind}
+use Rattle.link_rules.proofs.Apart.{at_has}
 use Rattle.linkage_rules.specs.SymbolLaws.{name_self, symbol_self, symbol_exact}
 use Rattle.linked_runs.proofs.Known.{AppendAlike}
 

@@ -7,13 +7,13 @@ use Rattle.module_arena.specs.EntryRules.{is_list_of, is_list_variable, appendin
 use Rattle.module_arena.specs.Module.{Constant, Integer, Truth, Null, Undef, Poison, ZeroInitializer, Address, ByteString, Aggregate, ElementAddress, Cast, Binary, Constants, no_constants, more_constants, Variable, Module}
 use Rattle.module_arena.specs.UsedNames.{names_in_constant, names_in_constants}
 use Rattle.module_arena.specs.Valid.{IsValid}
-use Rattle.linked_contents.specs.Contents.{pieces_of_constants}
+use Rattle.linkage_rules.specs.Contents.Contents.{pieces_of_constants}
 use Rattle.linkage_rules.specs.Globals.{OfVariable, globals, element_of, length_of}
 use Rattle.linkage_rules.specs.Linkages.{is_appending}
 use Rattle.linkage_rules.proofs.Entries.{all_follow}
 use Rattle.linked_runs.proofs.Known.{names_in_pieces, IsList, AppendsLists}
-use Rattle.module_linker.proofs.Parts.{globals_all}
-use Rattle.module_linker.proofs.Asked.{of_variables, of_aliases, of_functions}
+use Rattle.link_rules.proofs.Parts.{globals_all}
+use Rattle.link_rules.proofs.Asked.{of_variables, of_aliases, of_functions}
 
 module _ (i : ℕ) where
   elements_names : (cs : Constants) → names_in_pieces (pieces_of_constants i cs) ≡ names_in_constants cs

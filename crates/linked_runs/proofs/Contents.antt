@@ -7,7 +7,7 @@ use Rattle.std.proofs.lemmas.Bool.{cond-false}
 use Rattle.type_table.specs.Layout.{size}
 use Rattle.type_table.specs.Tree.{Tree, array}
 use Rattle.module_arena.specs.Module.{Bytes, Constant, Integer, Truth, Null, Undef, Poison, ZeroInitializer, Address, ByteString, Aggregate, ElementAddress, Cast, Binary, Square, Constants, no_constants, more_constants, Variable, Module}
-use Rattle.linked_contents.specs.Contents.{ContentPiece, pieces_of_constants, elements_of, elements_in, whole, pieces_by, pieces}
+use Rattle.linkage_rules.specs.Contents.Contents.{ContentPiece, pieces_of_constants, elements_of, elements_in, whole, pieces_by, pieces}
 use Rattle.linkage_rules.specs.Entries.{Entry, same_symbol, symbol_of, entries}
 use Rattle.linkage_rules.specs.declared.symbol.Symbol.{Symbol}
 use Rattle.linkage_rules.specs.Globals.{Global, OfVariable, OfFunction, OfAlias, linkage_of, element_of}
@@ -15,19 +15,19 @@ use Rattle.linkage_rules.specs.Linkages.{is_appending}
 use Rattle.linkage_rules.specs.Addresses.{joined_length}
 use Rattle.linkage_rules.specs.Winner.{definitions, is_definition, home}
 use Rattle.linkage_rules.proofs.Gathered.{all_joined}
-use Rattle.module_linker.proofs.Symbols.{home_is, all_filter}
-use Rattle.module_linker.specs.Linked.{linked_constant, linked_pieces, joined_alignment}
-use Rattle.module_linker.specs.Rename.{new_global, new_name_of}
-use Rattle.module_linker.specs.Structs.{new_struct, linked_type}
+use Rattle.link_rules.proofs.Symbols.{home_is, all_filter}
+use Rattle.link_rules.specs.Linked.{linked_constant, linked_pieces, joined_alignment}
+use Rattle.link_rules.specs.Rename.{new_global, new_name_of}
+use Rattle.link_rules.specs.Structs.{new_struct, linked_type}
 use Rattle.run_rules.specs.Constant.{shape_of, constant_value}
 use Rattle.run_rules.specs.Leaves.{slots_at}
 use Rattle.run_rules.specs.Look.{names_in}
 use Rattle.run_rules.specs.Plan.{contents_from, contents_of, Constructor, constructor_of}
-use Rattle.run_laws.proofs.SameConstants.{ConstantIn, ConstantsIn, same_constant}
-use Rattle.module_linker.specs.Carried.{merged, IsSymbol, carry, moved}
-use Rattle.module_linker.specs.Known.{KnownTree, KnownName}
+use Rattle.run_rules.proofs.OnLaws.SameConstants.{ConstantIn, ConstantsIn, same_constant}
+use Rattle.link_rules.specs.Carried.{merged, IsSymbol, carry, moved}
+use Rattle.link_rules.specs.Known.{KnownTree, KnownName}
 use Rattle.linked_runs.proofs.Known.{InitialiserIn, IsKnown, AppendsLists, Fit}
-use Rattle.module_linker.specs.Merges.{Merges}
+use Rattle.link_rules.specs.Merges.{Merges}
 use Rattle.linked_runs.proofs.SameNames.{agree}
 
 pub all_flat : {A B : Type 0} (P : B → Type 0) (f : A → List B) (xs : List A) → AllByRecursion (λ x. AllByRecursion P (f x)) xs → AllByRecursion P (flat_map f xs)

@@ -12,16 +12,16 @@ use Rattle.linkage_rules.specs.Globals.{globals}
 use Rattle.linkage_rules.proofs.Entries.{all_follow}
 use Rattle.linked_runs.proofs.Known.{IsKnown, AppendsLists, Fit}
 use Rattle.linked_runs.proofs.Alike.{append_alike}
-use Rattle.module_linker.proofs.Asked.{aliases_suit}
+use Rattle.link_rules.proofs.Asked.{aliases_suit}
 use Rattle.linked_runs.proofs.Asked.{append_lists}
 use Rattle.linked_runs.proofs.KnownBodies.{variable_known, function_known}
-use Rattle.module_linker.proofs.KnownTypes.{structs_fine}
-use Rattle.module_linker.proofs.Searches.{all_both}
+use Rattle.link_rules.proofs.KnownTypes.{structs_fine}
+use Rattle.link_rules.proofs.Searches.{all_both}
 use Rattle.linked_runs.proofs.NamesUsed.{entry_used}
-use Rattle.module_linker.proofs.Parts.{all_true, all_halves, all_flat_true, entries_by, globals_all}
-use Rattle.module_linker.proofs.Targets.{target_defined}
-use Rattle.module_linker.proofs.NamesKnown.{name_known}
-use Rattle.module_linker.proofs.Carrying.{all_distinct, together}
+use Rattle.link_rules.proofs.Parts.{all_true, all_halves, all_flat_true, entries_by, globals_all}
+use Rattle.link_rules.proofs.Targets.{target_defined}
+use Rattle.link_rules.proofs.NamesKnown.{name_known}
+use Rattle.link_rules.proofs.Carrying.{all_distinct, together}
 
 module _ (parts : List Module) (formed : AllByRecursion IsWellFormed parts) (valid : AllByRecursion IsValid parts) (none : first_conflict parts ≡ None) where
   part_known : (i : ℕ) → IsWellFormed (part_at parts i) × IsValid (part_at parts i) → AllByRecursion (IsKnown parts i) (globals (part_at parts i))

@@ -1,9 +1,9 @@
 -- The main theorem: look-up, table and plan of the result are those of the parts, so each run is one of theirs.
 use Rattle.std.specs.Prelude.{List}
 use Rattle.module_arena.specs.Module.{Module}
-use Rattle.module_linker.specs.Carried.{merged}
-use Rattle.module_linker.specs.Merges.{Merges}
-use Rattle.module_linker.proofs.Carrying.{carries_symbols}
+use Rattle.link_rules.specs.Carried.{merged}
+use Rattle.link_rules.specs.Merges.{Merges}
+use Rattle.link_rules.proofs.Carrying.{carries_symbols}
 use Rattle.run_rules.specs.Same.{LookAlike}
 use Rattle.run_rules.specs.Side.{run_of}
 use Rattle.linked_runs.specs.Headline.{LinkedLooksAlike, LinkedRunsAsItsParts}

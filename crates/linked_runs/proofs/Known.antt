@@ -5,19 +5,19 @@ use Rattle.std.specs.List.{AllByRecursion}
 use Rattle.type_table.specs.Tree.{Tree, array}
 use Rattle.module_arena.specs.Module.{Bytes, Constant, Module}
 use Rattle.module_arena.specs.UsedNames.{names_in_constant}
-use Rattle.linked_contents.specs.Contents.{ContentPiece, elements_of}
+use Rattle.linkage_rules.specs.Contents.Contents.{ContentPiece, elements_of}
 use Rattle.linkage_rules.specs.Entries.{Entry, symbol_in, symbol_of, same_symbol, entries}
 use Rattle.linkage_rules.specs.Globals.{Global, OfVariable, OfFunction, OfAlias, linkage_of, element_of, length_of}
 use Rattle.linkage_rules.specs.Linkages.{is_appending}
 use Rattle.linkage_rules.specs.Winner.{home}
-use Rattle.module_linker.proofs.Symbols.{GoTogether}
-use Rattle.module_linker.specs.Known.{KnownTree, KnownName}
-use Rattle.module_linker.proofs.SameShapes.{StructsFine}
+use Rattle.link_rules.proofs.Symbols.{GoTogether}
+use Rattle.link_rules.specs.Known.{KnownTree, KnownName}
+use Rattle.link_rules.proofs.SameShapes.{StructsFine}
 use Rattle.run_rules.specs.Plan.{names_used}
 use Rattle.run_rules.specs.Scope.{blocks_of}
-use Rattle.run_laws.proofs.SameConstants.{ConstantIn}
-use Rattle.run_laws.proofs.SameBlocks.{BlocksIn}
-use Rattle.run_laws.proofs.SameLook.{ParametersIn}
+use Rattle.run_rules.proofs.OnLaws.SameConstants.{ConstantIn}
+use Rattle.run_rules.proofs.OnLaws.SameBlocks.{BlocksIn}
+use Rattle.run_rules.proofs.OnLaws.SameLook.{ParametersIn}
 
 module _ (parts : List Module) (i : ℕ) where
   -- an initialiser has known types and names

@@ -13,15 +13,15 @@ use Rattle.module_arena.specs.Operations.{incoming_operand, operands, case_opera
 use Rattle.module_arena.specs.WellFormed.{is_good_type, types_of_operation, known_in, known_of_operands, known_of_operation, known_of_block, type_in_constant, has_entry, is_in_range, is_good_part, depth, is_good_constant, are_good_operands, known_of_variable, is_good_variable, is_good_block, is_good_function}
 use Rattle.linkage_rules.specs.Entries.{part_at}
 use Rattle.linkage_rules.specs.Globals.{OfVariable, OfFunction}
-use Rattle.run_laws.proofs.SameConstants.{ConstantIn, ConstantsIn}
-use Rattle.run_laws.proofs.SameOperations.{ValueIn, OperandIn, OperandsIn, TypesIn, CountIn, IncomingIn, OperationIn}
-use Rattle.run_laws.proofs.SameBlocks.{InstructionsIn, CasesIn, EndingIn, BlocksIn}
-use Rattle.run_laws.proofs.SameLook.{ParametersIn}
-use Rattle.module_linker.specs.Known.{KnownTree, KnownName}
+use Rattle.run_rules.proofs.OnLaws.SameConstants.{ConstantIn, ConstantsIn}
+use Rattle.run_rules.proofs.OnLaws.SameOperations.{ValueIn, OperandIn, OperandsIn, TypesIn, CountIn, IncomingIn, OperationIn}
+use Rattle.run_rules.proofs.OnLaws.SameBlocks.{InstructionsIn, CasesIn, EndingIn, BlocksIn}
+use Rattle.run_rules.proofs.OnLaws.SameLook.{ParametersIn}
+use Rattle.link_rules.specs.Known.{KnownTree, KnownName}
 use Rattle.linked_runs.proofs.Known.{InitialiserIn, IsKnown}
-use Rattle.module_linker.proofs.Parts.{all_halves}
-use Rattle.module_linker.proofs.KnownTypes.{tree_known}
-use Rattle.module_linker.proofs.NamesKnown.{name_known}
+use Rattle.link_rules.proofs.Parts.{all_halves}
+use Rattle.link_rules.proofs.KnownTypes.{tree_known}
+use Rattle.link_rules.proofs.NamesKnown.{name_known}
 
 module _ (parts : List Module) (i : ℕ) where
   abbrev m : Module

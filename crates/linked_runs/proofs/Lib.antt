@@ -14,3 +14,4 @@ pub mod Alike
 pub mod Fits
 pub mod Headline
 pub mod Example
+pub mod OnWrong

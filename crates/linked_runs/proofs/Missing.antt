@@ -8,7 +8,7 @@ use Rattle.std.proofs.lemmas.List.Folds.{list_any-append}
 use Rattle.module_arena.specs.Module.{Bytes, Constant, Integer, Truth, Null, Undef, Poison, ZeroInitializer, Address, ByteString, Aggregate, ElementAddress, Cast, Binary, Square, Constants, no_constants, more_constants, Module}
 use Rattle.module_arena.specs.UsedNames.{names_in_constant, names_in_constants}
 use Rattle.linkage_rules.specs.Bind.{Definition, Appended, bound_to, behind_from, behind, target_of, own_meaning, meaning}
-use Rattle.linked_contents.specs.Contents.{ContentPiece, pieces_of_constants, elements_of, elements_in}
+use Rattle.linkage_rules.specs.Contents.Contents.{ContentPiece, pieces_of_constants, elements_of, elements_in}
 use Rattle.linkage_rules.specs.Entries.{Entry, same_symbol, symbol_of, symbol_in, entries, entries_of, symbol_name}
 use Rattle.linkage_rules.specs.declared.symbol.Symbol.{Symbol}
 use Rattle.linkage_rules.specs.declared.symbol.Symbol.TheVariants.{Shared, Local}
@@ -17,19 +17,19 @@ use Rattle.linkage_rules.specs.Linkages.{is_appending}
 use Rattle.linkage_rules.specs.Lists.{has}
 use Rattle.linkage_rules.specs.Symbols.{symbols}
 use Rattle.linkage_rules.specs.Winner.{definitions, is_definition, home}
-use Rattle.module_linker.proofs.Symbols.{home_is, all_filter, symbols_have, local_home}
+use Rattle.link_rules.proofs.Symbols.{home_is, all_filter, symbols_have, local_home}
 use Rattle.linkage_rules.proofs.Entries.{all_follow, all_passing}
-use Rattle.module_linker.proofs.Apart.{at_has}
+use Rattle.link_rules.proofs.Apart.{at_has}
 use Rattle.linkage_rules.specs.SymbolLaws.{symbol_self, symbol_exact}
-use Rattle.module_linker.specs.Linked.{linked_constant, linked_pieces, linked_definition}
-use Rattle.module_linker.specs.Rename.{new_global, new_name_of}
-use Rattle.module_linker.specs.Structs.{new_struct}
+use Rattle.link_rules.specs.Linked.{linked_constant, linked_pieces, linked_definition}
+use Rattle.link_rules.specs.Rename.{new_global, new_name_of}
+use Rattle.link_rules.specs.Structs.{new_struct}
 use Rattle.run_rules.specs.Plan.{chosen_by, chosen_of, chosen, names_used, uses, is_unresolved, is_missing, first_missing}
-use Rattle.module_linker.specs.Carried.{merged, IsSymbol, carry, moved}
-use Rattle.module_linker.specs.Known.{KnownName}
+use Rattle.link_rules.specs.Carried.{merged, IsSymbol, carry, moved}
+use Rattle.link_rules.specs.Known.{KnownName}
 use Rattle.linked_runs.proofs.Known.{IsKnown, IsList, AppendsLists, AppendAlike, names_in_pieces, Fit}
-use Rattle.module_linker.specs.Merges.{Merges}
-use Rattle.module_linker.proofs.Searches.{any_flat, any_map, find_name, all_both, at_all, all_front, all_back}
+use Rattle.link_rules.specs.Merges.{Merges}
+use Rattle.link_rules.proofs.Searches.{any_flat, any_map, find_name, all_both, at_all, all_front, all_back}
 use Rattle.linked_runs.proofs.Contents.{all_flat}
 use Rattle.linked_runs.proofs.NamesKept.{constant_names, body_names, initialiser_names}
 use Rattle.linked_runs.proofs.Places.{all_symbols, behind_is}

@@ -8,10 +8,10 @@ use Rattle.module_arena.specs.UsedNames.{names_in_constant, names_in_constants, 
 use Rattle.linkage_rules.specs.Globals.{Global, OfVariable, OfFunction, OfAlias}
 use Rattle.linkage_rules.proofs.Gathered.{all_joined as all_append}
 use Rattle.run_rules.specs.Plan.{names_used}
-use Rattle.run_laws.proofs.SameConstants.{ConstantIn, ConstantsIn}
-use Rattle.run_laws.proofs.SameOperations.{ValueIn, OperandIn, OperandsIn, CountIn, IncomingIn, OperationIn}
-use Rattle.run_laws.proofs.SameBlocks.{InstructionsIn, CasesIn, EndingIn, BlocksIn}
-use Rattle.module_linker.specs.Known.{KnownTree, KnownName}
+use Rattle.run_rules.proofs.OnLaws.SameConstants.{ConstantIn, ConstantsIn}
+use Rattle.run_rules.proofs.OnLaws.SameOperations.{ValueIn, OperandIn, OperandsIn, CountIn, IncomingIn, OperationIn}
+use Rattle.run_rules.proofs.OnLaws.SameBlocks.{InstructionsIn, CasesIn, EndingIn, BlocksIn}
+use Rattle.link_rules.specs.Known.{KnownTree, KnownName}
 use Rattle.linked_runs.proofs.Known.{InitialiserIn, IsKnown}
 
 module _ (T : Tree → Type 0) (G : Bytes → Type 0) where

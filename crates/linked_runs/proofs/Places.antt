@@ -14,15 +14,15 @@ use Rattle.linkage_rules.specs.Globals.{Global, OfVariable, OfFunction, OfAlias}
 use Rattle.linkage_rules.specs.Addresses.{Room, room, rooms, placed_from, function_address, addressed_from, place, address}
 use Rattle.linkage_rules.specs.Symbols.{variable_symbols, function_symbols, alias_symbols, symbols}
 use Rattle.linkage_rules.specs.Winner.{home}
-use Rattle.module_linker.proofs.Symbols.{home_is, all_among, variables_plain, variable_kinds}
+use Rattle.link_rules.proofs.Symbols.{home_is, all_among, variables_plain, variable_kinds}
 use Rattle.linkage_rules.proofs.Entries.{all_follow}
 use Rattle.linkage_rules.specs.SymbolLaws.{symbol_self}
 use Rattle.linkage_rules.proofs.Gathered.{all_joined}
 use Rattle.run_rules.specs.Look.{pointer_to, variable_bounds, bounds_in}
-use Rattle.module_linker.specs.Carried.{merged, IsSymbol, carry}
+use Rattle.link_rules.specs.Carried.{merged, IsSymbol, carry}
 use Rattle.linked_runs.proofs.Known.{IsKnown, Fit}
-use Rattle.module_linker.specs.Merges.{Merges}
-use Rattle.module_linker.proofs.Searches.{at_all, lookup_map, position_map, all_both, all_front, all_back}
+use Rattle.link_rules.specs.Merges.{Merges}
+use Rattle.link_rules.proofs.Searches.{at_all, lookup_map, position_map, all_both, all_front, all_back}
 use Rattle.linked_runs.proofs.Rooms.{room_same}
 
 module _ {K : Type 0} (h : Symbol → Option K) where

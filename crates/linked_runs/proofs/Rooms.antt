@@ -16,15 +16,15 @@ use Rattle.linkage_rules.specs.Lists.{greatest}
 use Rattle.linkage_rules.specs.Addresses.{Room, joined_length, align_in, alignment_in, greatest_stated, commons, greatest_common, size_by, alignment_by, room}
 use Rattle.linkage_rules.specs.Symbols.{is_alias_symbol}
 use Rattle.linkage_rules.specs.Winner.{definitions, home, shape_in, size_in}
-use Rattle.module_linker.proofs.Symbols.{AreOfKind, home_is, best_has}
-use Rattle.module_linker.specs.Linked.{joined_initialiser, linked_definition}
-use Rattle.module_linker.specs.Structs.{linked_type}
-use Rattle.module_linker.specs.Carried.{merged, IsSymbol, carry, moved}
-use Rattle.module_linker.specs.Rename.{new_name_of}
-use Rattle.module_linker.specs.Known.{KnownTree}
+use Rattle.link_rules.proofs.Symbols.{AreOfKind, home_is, best_has}
+use Rattle.link_rules.specs.Linked.{joined_initialiser, linked_definition}
+use Rattle.link_rules.specs.Structs.{linked_type}
+use Rattle.link_rules.specs.Carried.{merged, IsSymbol, carry, moved}
+use Rattle.link_rules.specs.Rename.{new_name_of}
+use Rattle.link_rules.specs.Known.{KnownTree}
 use Rattle.linked_runs.proofs.Known.{IsKnown, AppendsLists, Fit}
-use Rattle.module_linker.specs.Merges.{Merges}
-use Rattle.module_linker.proofs.Searches.{all_both}
+use Rattle.link_rules.specs.Merges.{Merges}
+use Rattle.link_rules.proofs.Searches.{all_both}
 
 -- ONE OF A KIND
 

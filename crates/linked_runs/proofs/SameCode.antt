@@ -14,23 +14,23 @@ use Rattle.linkage_rules.specs.Globals.{Global, OfVariable, OfFunction, OfAlias,
 use Rattle.linkage_rules.specs.Linkages.{is_appending}
 use Rattle.linkage_rules.specs.Symbols.{function_symbols}
 use Rattle.linkage_rules.specs.Winner.{definitions, home}
-use Rattle.module_linker.proofs.Symbols.{home_is}
-use Rattle.module_linker.specs.Linked.{linked_block, linked_parameter}
-use Rattle.module_linker.specs.Rename.{new_global, new_name_of}
-use Rattle.module_linker.specs.Structs.{new_struct, linked_type}
+use Rattle.link_rules.proofs.Symbols.{home_is}
+use Rattle.link_rules.specs.Linked.{linked_block, linked_parameter}
+use Rattle.link_rules.specs.Rename.{new_global, new_name_of}
+use Rattle.link_rules.specs.Structs.{new_struct, linked_type}
 use Rattle.run_rules.specs.Action.{Action}
 use Rattle.run_rules.specs.Calls.{Code, Nothing}
 use Rattle.run_rules.specs.Constant.{Names, shape_of}
 use Rattle.run_rules.specs.Look.{Defined, names_in, defined_by, defined, look_in, look, function_number, code_of, callee_by, callee_numbered, table}
 use Rattle.run_rules.specs.Resolve.{signature_in}
 use Rattle.run_rules.specs.Scope.{Typed, results_of, blocks_of, scope_of, leaf_count}
-use Rattle.run_laws.proofs.SameLook.{ParametersIn, scope_in, same_locals, same_look}
-use Rattle.module_linker.specs.Carried.{merged, IsSymbol, carry, moved}
-use Rattle.module_linker.specs.Known.{KnownTree, KnownName}
+use Rattle.run_rules.proofs.OnLaws.SameLook.{ParametersIn, scope_in, same_locals, same_look}
+use Rattle.link_rules.specs.Carried.{merged, IsSymbol, carry, moved}
+use Rattle.link_rules.specs.Known.{KnownTree, KnownName}
 use Rattle.linked_runs.proofs.Known.{IsKnown, Fit}
-use Rattle.module_linker.specs.Merges.{Merges}
-use Rattle.module_linker.proofs.Searches.{at_all}
-use Rattle.module_linker.proofs.Merged.{definition_linkage}
+use Rattle.link_rules.specs.Merges.{Merges}
+use Rattle.link_rules.proofs.Searches.{at_all}
+use Rattle.link_rules.proofs.Merged.{definition_linkage}
 use Rattle.linked_runs.proofs.Places.{behind_is, functions_are}
 use Rattle.linked_runs.proofs.SameNames.{meaning_path, agree}
 

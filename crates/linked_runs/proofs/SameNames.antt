@@ -10,14 +10,14 @@ use Rattle.linkage_rules.specs.declared.symbol.Symbol.{Symbol}
 use Rattle.linkage_rules.specs.Globals.{linkage_of}
 use Rattle.linkage_rules.specs.Linkages.{is_appending}
 use Rattle.linkage_rules.specs.Winner.{home}
-use Rattle.module_linker.specs.Rename.{new_global}
-use Rattle.module_linker.specs.Structs.{new_struct}
+use Rattle.link_rules.specs.Rename.{new_global}
+use Rattle.link_rules.specs.Structs.{new_struct}
 use Rattle.run_rules.specs.Look.{pointer_to, leaf_of, address_in, names_in}
-use Rattle.run_laws.proofs.SameConstants.{Agree}
-use Rattle.module_linker.specs.Carried.{merged, IsSymbol, carry, moved}
-use Rattle.module_linker.specs.Known.{KnownTree, KnownName}
+use Rattle.run_rules.proofs.OnLaws.SameConstants.{Agree}
+use Rattle.link_rules.specs.Carried.{merged, IsSymbol, carry, moved}
+use Rattle.link_rules.specs.Known.{KnownTree, KnownName}
 use Rattle.linked_runs.proofs.Known.{Fit}
-use Rattle.module_linker.specs.Merges.{Merges}
+use Rattle.link_rules.specs.Merges.{Merges}
 use Rattle.linked_runs.proofs.Places.{behind_is, pointer_same, bounds_same}
 
 defined_leaf : (parts : List Module) (s t : Symbol) (e : Entry) (b : Bool) → leaf_of parts s (if b then Appended t else Definition e) ≡ Ptr (pointer_to parts s)

@@ -5,7 +5,7 @@ use Rattle.ir_eval.specs.declared.value.Pointer.{Pointer}
 use Rattle.module_arena.specs.Module.{Bytes, Module}
 use Rattle.module_arena.proofs.ModuleSet.{map_map}
 use Rattle.linkage_rules.specs.Bind.{behind_from}
-use Rattle.linked_contents.specs.Contents.{pieces_by}
+use Rattle.linkage_rules.specs.Contents.Contents.{pieces_by}
 use Rattle.linkage_rules.specs.Entries.{Entry, same_symbol, symbol_name}
 use Rattle.linkage_rules.specs.declared.symbol.Symbol.{Symbol}
 use Rattle.linkage_rules.specs.Globals.{Global, OfVariable, OfFunction, OfAlias, is_constant}
@@ -13,15 +13,15 @@ use Rattle.linkage_rules.specs.Lists.{has}
 use Rattle.linkage_rules.specs.Addresses.{Room, rooms}
 use Rattle.linkage_rules.specs.Symbols.{symbols}
 use Rattle.linkage_rules.specs.Winner.{definitions, home}
-use Rattle.module_linker.specs.Linked.{linked_definition}
+use Rattle.link_rules.specs.Linked.{linked_definition}
 use Rattle.run_rules.specs.Look.{defined_by, defined, pointer_to}
 use Rattle.run_rules.specs.Plan.{main_of, main_symbol, main_by, main_in, variable_of, Contents, contents_of, in_order, constructors_symbol, constructors, plan}
-use Rattle.module_linker.specs.Carried.{merged, IsSymbol, carry, moved}
-use Rattle.module_linker.specs.Rename.{new_name_of}
+use Rattle.link_rules.specs.Carried.{merged, IsSymbol, carry, moved}
+use Rattle.link_rules.specs.Rename.{new_name_of}
 use Rattle.linked_runs.proofs.Known.{Fit}
-use Rattle.module_linker.specs.Merges.{Merges}
+use Rattle.link_rules.specs.Merges.{Merges}
 use Rattle.linked_runs.proofs.Contents.{pieces_known, pieces_same, contents_same, constructors_in, constructors_moved}
-use Rattle.module_linker.proofs.Searches.{map_all}
+use Rattle.link_rules.proofs.Searches.{map_all}
 use Rattle.linked_runs.proofs.Missing.{first_missing_same}
 use Rattle.linked_runs.proofs.Places.{under, rooms_are, rooms_same, pointer_same}
 use Rattle.linked_runs.proofs.SameCode.{signature_moved, by_symbol}

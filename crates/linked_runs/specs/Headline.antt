@@ -5,7 +5,7 @@ use Rattle.module_arena.specs.Module.{Module}
 use Rattle.module_arena.specs.Valid.{IsValid}
 use Rattle.module_arena.specs.WellFormed.{IsWellFormed}
 use Rattle.linkage_rules.specs.Conflicts.{first_conflict}
-use Rattle.module_linker.specs.Carried.{merged}
+use Rattle.link_rules.specs.Carried.{merged}
 use Rattle.run_rules.specs.Same.{LookAlike, RunAlike}
 
 -- Parts that are well formed and valid, and have no conflict, are looked up alike in what is made of them: each function has the same

@@ -15,7 +15,7 @@ use Rattle.std.proofs.lemmas.List.Elements.{All-weaker}
 use Rattle.module_arena.specs.Module.{Bytes, Constant}
 use Rattle.module_arena.specs.Lists.{Lists, name_at}
 use Rattle.module_arena.specs.Known.{Counts, counts, KnowsConst, AllKnownConsts, IsGood}
-use Rattle.module_arena.specs.View.{type_at, constant_at, constant_view, grow, constants_of}
+use Rattle.module_arena.specs.View.{constant_at, constant_view, grow, constants_of}
 use Rattle.module_arena.specs.Changes.{constant_in}
 use Rattle.module_arena.proofs.SameView.{constant_view-same}
 use Rattle.module_arena.proofs.ModuleOf.{length-constants_of}

@@ -2,7 +2,7 @@
 -- trees, no ids.
 -- Everything meets here: a text and a bitcode stand for a module, an arena holds one, validity is a property of
 -- one, linking and extraction give one, and a run is of some. `Block`, `Case` and `Ending` here are those of a module:
--- those of a text are in `ir_instructions`, those of an arena in `src/entry.rt` and `src/instruction.rt`.
+-- those of a text are in `ir_phrases::instructions`, those of an arena in `src/entry.rt` and `src/instruction.rt`.
 use Rattle.std.specs.Prelude.{ℕ, Bool, List, [], Option}
 use Rattle.ir_tables.specs.declared.linkage.Linkage.{Linkage}
 use Rattle.ir_tables.specs.declared.opcode.Opcode.{Opcode}

@@ -1,5 +1,5 @@
 //! Variables, aliases, functions and blocks of an arena, by the ids of their parts. Those of a text are in `ir_syntax` and
-//! `ir_instructions`.
+//! `ir_phrases::instructions`.
 
 ghost use Rattle.std.specs.Prelude.{◌≡◌, ◌<◌, ◌^◌, length, slice_get, Some};
 ghost use Rattle.module_arena.specs.Lists.{value_names, function_blocks};

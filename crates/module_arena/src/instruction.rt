@@ -1,4 +1,4 @@
-//! Instructions and ends of blocks of an arena, by the ids of their parts. Those of a text are in `ir_instructions`.
+//! Instructions and ends of blocks of an arena, by the ids of their parts. Those of a text are in `ir_phrases::instructions`.
 
 use crate::{BlockId, Boxed, ConstId, ValueId};
 use ir_base::ItemList;

@@ -1,9 +1,8 @@
-pub mod Rename
-pub mod Structs
-pub mod Linked
-pub mod Counts
-pub mod Carried
-pub mod Known
-pub mod Merges
-pub mod Alone
-pub mod Laws
+pub mod Faults
+pub mod Head
+pub mod Stages
+pub mod Parts
+pub mod Ground
+pub mod Entries
+pub mod Ids
+pub mod Filling

@@ -1,22 +1,45 @@
-//! Linking: the one module that is made of several, as it is defined, and what its definition promises of names and symbols.
+//! Linking: the one module that is made of several (the tool `llvm-link`).
 //!
-//! It stands on the symbols, entries and homes of `linkage_rules`, on the first contents of `linked_contents`, and on the modules of
-//! `module_arena`. It promises that fresh names are free, that no two symbols get one name, that each symbol of well-formed, valid
-//! parts without a conflict is carried over with its definition and its meaning, and that such a part alone stays as it is if it has
-//! no `available_externally` definition and no appending `zeroinitializer`.
-//! Definitions: `specs/Rename`, `Structs`, `Linked`, `Counts`; of what is promised `Carried`, `Known`, `Merges`, `Alone`, `Laws`.
+//! It stands on the symbols of `linkage_rules`, on `link_names::rows`, `link_names` and `link_names::counts`, which tell what the linked module
+//! has, on `module_linker::ground`, `module_linker::entries`, `module_linker::ids` and `module_linker::filling`, which make it, and on the laws of `link_rules::valid` and
+//! `linked_runs`. It promises that exactly the linked module is made, which runs as its parts do side by side, or that the first
+//! conflict is told, or else the first count past its limit. Definitions: `specs/Faults`, and `Linked` and `Counts` of `link_rules`.
+//!
+//! Its modules:
+//!
+//! - `head`: The head of the module that is made of several (the tool `llvm-link`): its texts, and
+//!   the names of its structs.
+//! - `stages`: What a module that is made of several is while it is made (the tool `llvm-link`):
+//!   with the types alone, with its entries declared, and while they are defined one after another.
+//! - `parts`: The types of one part, and the structs that it is the first to have, in the module
+//!   that is made of several (the tool `llvm-link`).
+//! - `ground`: What stands before the entries in the module that is made of several (the tool
+//!   `llvm-link`): its texts, its named structs, and the types of all parts.
+//! - `entries`: The entries of the module that is made of several, declared (the tool `llvm-link`):
+//!   one for each symbol, in order, under its new name, none of it defined yet.
+//! - `ids`: What the entries and constants of several modules are in the one that is made of them
+//!   (the tool `llvm-link`).
+//! - `filling`: The definitions of the module that is made of several (the tool `llvm-link`):
+//!   initialisers, appended arrays, bodies and targets, each where its symbol is defined.
 //!
 //! ```
-//! fresh (codes "v" ∷ codes "v.1" ∷ []) (codes "v") -- `v.2`
-//! -- of two parts, `@v = internal global i32 1` and `@v = internal global i32 2`
-//! new_name_of parts (Local 0 (codes "v")) -- `v`
-//! new_name_of parts (Local 1 (codes "v")) -- `v.1`
-//! link_result parts -- `@v = internal global i32 1` and `@v.1 = internal global i32 2`
+//! let mut parts = Vec::new(alloc);
+//! parts.push(first)?; // declare void @f()
+//! parts.push(second)?; // define void @f() { ret void }
+//! let linked = link(alloc, parts)?; // define void @f() { ret void }
 //! ```
 #![tactic(auto)]
 
-mod law;
-mod limits;
+pub mod entries;
+mod fault;
+pub mod filling;
+pub mod ground;
+pub mod head;
+pub mod ids;
+mod linking;
+mod making;
+pub mod parts;
+pub mod stages;
 
-pub use law::{fresh_names_are_free, linking_carries_symbols, names_stay_apart, one_module_stays};
-pub use limits::APPENDED_LIMIT;
+pub use fault::LinkFault;
+pub use linking::link;

@@ -1,8 +1,8 @@
 //! Canonical texts.
 
 use crate::reading::{LARGEST, read_module};
-use gathered::Gathered;
 use ir_base::{MemorySink, NumberList};
+use ir_printer::gathered::Gathered;
 use ir_printer::put_module;
 use std::io;
 use std::io::Write;

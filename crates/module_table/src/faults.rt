@@ -1,11 +1,11 @@
 //! Why a module is refused, as a line.
 
+use entry_verify::types::VerifyFault;
 use ir_base::Name;
 use module_arena::{Entity, LocalName};
 use name_rules::{spell_global, spell_struct};
 use std::io;
 use std::io::Write;
-use type_verify::VerifyFault;
 
 /// Prints the name of a variable, an alias or a function.
 fn print_global(rt: &HostRuntime, name: &Name) -> io::Result<()> {

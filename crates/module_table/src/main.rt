@@ -1,6 +1,6 @@
 //! Reads cases that are texts of modules, and prints for each what its head line asks for.
 //!
-//! It stands on `ir_resolve`, `ir_printer`, `path_verify`, `linkage_rules` and `linked_symbols`, and serves to show them: its stored
+//! It stands on `ir_resolve`, `ir_printer`, `path_verify`, `linkage_rules` and `linkage_rules::resolving`, and serves to show them: its stored
 //! input has each phrase, texts that break each rule in each place, and parts with each pair of linkages and each kind of conflict,
 //! and its stored output is written by hand (`tests/canonical.py`, `tests/validity.py`, `tests/linkage.py`). Nothing is promised of
 //! the printed text. A case is a head line and the lines behind it; what stands before any head line is a script of parts.

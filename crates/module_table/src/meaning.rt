@@ -2,13 +2,13 @@
 ghost use Rattle.std.specs.Prelude.{◌≡◌, is_some, true};
 ghost use Rattle.linkage_rules.specs.Ids.{modules};
 ghost use Rattle.linkage_rules.specs.Resolved.{AreBindings};
-ghost use Rattle.linked_symbols.specs.Meanings.{bound_view};
+ghost use Rattle.linkage_rules.specs.Resolving.Meanings.{bound_view};
 
 use crate::symbols::{add_name, add_part, kind_word};
 use crate::telling::add;
 use ir_base::Name;
+use linkage_rules::resolving::{Bound, bind_names};
 use linkage_rules::{Bindings, EntryId, name};
-use linked_symbols::{Bound, bind_names};
 use module_arena::Checked;
 use std::alloc::{AllocError, Global};
 

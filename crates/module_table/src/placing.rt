@@ -6,8 +6,8 @@ ghost use Rattle.linkage_rules.specs.Symbols.{symbols};
 
 use crate::symbols::add_symbol;
 use crate::telling::{add, add_number};
+use linkage_rules::resolving::{PlacedVariable, Places, place_symbols, symbol_behind};
 use linkage_rules::{Bindings, Symbol, SymbolKind};
-use linked_symbols::{PlacedVariable, Places, place_symbols, symbol_behind};
 use module_arena::Checked;
 use std::alloc::{AllocError, Global};
 

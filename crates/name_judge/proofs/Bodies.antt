@@ -2,7 +2,7 @@
 use Rattle.std.specs.Prelude.{◌≡◌, ◌∷◌, Option, Result}
 use Rattle.std.proofs.Common.{subst}
 use Rattle.ir_terminals.specs.declared.values.PlacedName.{PlacedName}
-use Rattle.ir_constants.specs.Tree.{TypeTrees}
+use Rattle.ir_phrases.specs.Constants.Tree.{TypeTrees}
 use Rattle.ir_syntax.specs.Tree.{BodyTree}
 use Rattle.type_table.specs.declared.measure.Measure.{Measure}
 use Rattle.name_rules.specs.declared.fault.ResolveFault.{ResolveFault}

@@ -13,7 +13,7 @@ use Rattle.name_rules.specs.Breaks.{global_name, global_names, known_in}
 use Rattle.name_rules.specs.Demand.{place_of_name}
 use Rattle.name_rules.specs.TypeDemands.{Known, has_name}
 use Rattle.type_judge.proofs.NamesGathered.{distinct_there, globals-append}
-use Rattle.name_table.specs.Entries.{value_of}
+use Rattle.type_table.specs.Names.Entries.{value_of}
 use Rattle.name_judge.specs.Seen.{AreKept, earlier_of, place_among}
 
 -- a name that is not there has no place

@@ -5,7 +5,7 @@ use Rattle.std.proofs.lemmas.Slice.Eq.{bytes_eq-Decides}
 use Rattle.ir_base.specs.declared.place.Place.{Place}
 use Rattle.ir_terminals.specs.declared.values.PlacedName.{PlacedName}
 use Rattle.module_arena.specs.Module.{Bytes}
-use Rattle.name_table.specs.Entries.{value_of}
+use Rattle.type_table.specs.Names.Entries.{value_of}
 use Rattle.name_rules.specs.Demand.{place_of_name}
 use Rattle.type_judge.proofs.NamesGathered.{same_both}
 use Rattle.name_judge.specs.Seen.{AreFirst}

@@ -10,7 +10,7 @@ use Rattle.name_rules.specs.declared.fault.ResolveFault.TheVariants as faults
 use Rattle.name_rules.specs.Demand.{Demand, first_there, Tells}
 use Rattle.name_rules.specs.TypeDemands.{Known}
 use Rattle.name_rules.specs.Breaks.{item_demands, demands_behind, demands, known_in}
-use Rattle.struct_order.proofs.Gathered.{items_more}
+use Rattle.type_judge.proofs.OnOrder.Gathered.{items_more}
 use Rattle.type_judge.specs.Judging.{IsJudged}
 use Rattle.type_judge.proofs.Parts.{Leads, judged_front, judged_rest}
 

@@ -5,3 +5,4 @@ mod SeenItem
 mod Parameters
 mod Bodies
 mod DistinctNames
+pub mod OnLocals

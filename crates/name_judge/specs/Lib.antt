@@ -1,2 +1,3 @@
 pub mod Seen
 pub mod Counting
+pub mod Locals

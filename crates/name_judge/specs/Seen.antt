@@ -4,7 +4,7 @@ use Rattle.ir_base.specs.declared.place.Place.{Place}
 use Rattle.ir_terminals.specs.declared.values.PlacedName.{PlacedName}
 use Rattle.ir_syntax.specs.Tree.{ItemTree}
 use Rattle.module_arena.specs.Module.{Bytes}
-use Rattle.name_table.specs.Entries.{value_of}
+use Rattle.type_table.specs.Names.Entries.{value_of}
 use Rattle.name_rules.specs.Demand.{place_of_name}
 use Rattle.name_rules.specs.Breaks.{struct_name, global_name, source_place, layout_place, triple_place}
 use Rattle.name_rules.specs.ModuleOf.{first_of}

@@ -15,9 +15,9 @@ use ir_base::Place;
 use ir_syntax::Item;
 use ir_terminals::PlacedName;
 use name_rules::ResolveFault;
-use name_table::NameTable;
 use std::alloc::AllocError;
 use type_judge::global_name;
+use type_table::names::NameTable;
 
 /// The place of the first that is called so, where there is one; else the name is kept with its place.
 fn first_or_kept<'a>(

@@ -2,7 +2,7 @@
 #![tactic(auto, using(type_judge::proofs::Parts::judged_front, type_judge::proofs::Parts::judged_rest, type_judge::proofs::Parts::judged_stop, type_judge::proofs::Parts::judged_next))]
 
 ghost use Rattle.std.specs.Prelude.{◌≡◌, List, ◌++◌, map, flat_map};
-ghost use Rattle.ir_instructions.specs.View.{block_view};
+ghost use Rattle.ir_phrases.specs.Instructions.View.{block_view};
 ghost use Rattle.ir_syntax.specs.Functions.{parameter_types};
 ghost use Rattle.ir_syntax.specs.View.{head_view, parameter_view};
 ghost use Rattle.ir_terminals.specs.declared.values.PlacedName.{PlacedName};
@@ -14,9 +14,9 @@ ghost use Rattle.type_judge.specs.Gathered.{IsKnown, known_of};
 ghost use Rattle.type_judge.specs.Judging.{IsJudged};
 
 use crate::earlier::check_apart;
+use crate::locals::{LocalTables, check_definition};
 use ir_base::Place;
 use ir_syntax::{Declaration, Definition, FunctionHead, WrittenParameter};
-use local_judge::{LocalTables, check_definition};
 use name_rules::ResolveFault;
 use std::alloc::Global;
 use type_judge::{Known, check_type};

@@ -2,7 +2,7 @@
 #![tactic(auto, using(type_judge::proofs::Parts::judged_front, type_judge::proofs::Parts::judged_rest, type_judge::proofs::Parts::judged_stop, type_judge::proofs::Parts::judged_next))]
 
 ghost use Rattle.std.specs.Prelude.{◌≡◌, List, [], ◌∷◌, ◌++◌, option_map};
-ghost use Rattle.ir_constants.specs.View.{type_view, constant_view};
+ghost use Rattle.ir_phrases.specs.Constants.View.{type_view, constant_view};
 ghost use Rattle.ir_syntax.specs.View.{variable_view, alias_type_view, alias_view};
 ghost use Rattle.ir_terminals.specs.declared.values.PlacedName.{PlacedName};
 ghost use Rattle.name_rules.specs.Breaks.{initialiser_demands, content_demands, variable_demands, alias_type_demands, alias_demands};
@@ -13,7 +13,7 @@ ghost use Rattle.type_judge.specs.Judging.{IsJudged};
 
 use crate::earlier::check_apart;
 use ir_base::Place;
-use ir_constants::{Constant, Type};
+use ir_phrases::constants::{Constant, Type};
 use ir_syntax::{WrittenAlias, WrittenAliasType, WrittenVariable};
 use name_rules::ResolveFault;
 use std::alloc::Global;

@@ -6,22 +6,22 @@ ghost use Rattle.name_rules.specs.Breaks.{item_demands, demands};
 ghost use Rattle.name_rules.specs.ModuleOf.{structs_in};
 ghost use Rattle.type_judge.specs.Gathered.{IsKnown, known_of};
 ghost use Rattle.type_judge.specs.Judging.{IsJudged};
-ghost use Rattle.struct_ends.specs.Mentioning.{AreMentions, structs_of};
+ghost use Rattle.type_judge.specs.Ends.Mentioning.{AreMentions, structs_of};
 ghost use Rattle.name_judge.specs.Seen.{IsSeen, earlier_of};
 
 use crate::earlier::earlier_global;
 use crate::functions::{check_declaration, check_function};
 use crate::globals::{check_alias, check_variable};
+use crate::locals::LocalTables;
 use crate::seen::{Seen, check_first, nothing_seen};
 use crate::structs::check_struct;
 use ir_base::Place;
 use ir_syntax::{Item, Items};
-use local_judge::LocalTables;
 use name_rules::ResolveFault;
-use name_table::NameTable;
 use std::alloc::Global;
-use struct_ends::StructMentions;
 use type_judge::Known;
+use type_judge::ends::StructMentions;
+use type_table::names::NameTable;
 
 /// An item, behind what has stood in the text so far, where the first global of its name stood at that place. The tables of
 /// locals may be those of any function before.

@@ -1,10 +1,15 @@
 //! Judges the items of a text by the rules of names and numbers.
 //!
-//! It stands on the judges of types, constants and names of `type_judge`, on `local_judge` for the bodies of functions, and
-//! on `struct_ends` for structs that contain themselves. It promises, want of memory aside, that items are let through exactly
+//! It stands on the judges of types, constants and names of `type_judge`, on `name_judge::locals` for the bodies of functions, and
+//! on `type_judge::ends` for structs that contain themselves. It promises, want of memory aside, that items are let through exactly
 //! where they break no rule, and that else the first break is told: too many of a kind, else the first demand in the order of
 //! the text.
 //! Definitions: `specs/Seen`; the breaks are those of `name_rules`, `specs/Breaks`.
+//!
+//! Its modules:
+//!
+//! - `locals`: Judges the functions that a text defines: tells the first demand, in the order of
+//!   the text, that does not hold.
 //!
 //! ```
 //! let items = read_items(alloc, b"@a = global i32 7\n@a = global i32 8")?;
@@ -23,6 +28,7 @@ mod earlier;
 mod functions;
 mod globals;
 mod items;
+pub mod locals;
 mod seen;
 mod structs;
 

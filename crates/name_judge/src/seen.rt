@@ -8,8 +8,8 @@ ghost use Rattle.name_judge.specs.Seen.{AreFirst, IsSeen};
 use ir_base::Place;
 use ir_terminals::PlacedName;
 use name_rules::ResolveFault;
-use name_table::NameTable;
 use std::alloc::Global;
+use type_table::names::NameTable;
 
 /// What has stood in a text so far.
 #[derive(Drop)]

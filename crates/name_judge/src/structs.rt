@@ -2,28 +2,28 @@
 #![tactic(auto, using(type_judge::proofs::Parts::judged_front, type_judge::proofs::Parts::judged_rest, type_judge::proofs::Parts::judged_stop, type_judge::proofs::Parts::judged_next))]
 
 ghost use Rattle.std.specs.Prelude.{◌≡◌, IfOk, OnOk, List, [], ◌∷◌, ◌++◌, map, is_none};
-ghost use Rattle.ir_constants.specs.Tree.{types};
-ghost use Rattle.ir_constants.specs.View.{type_view};
+ghost use Rattle.ir_phrases.specs.Constants.Tree.{types};
+ghost use Rattle.ir_phrases.specs.Constants.View.{type_view};
 ghost use Rattle.ir_syntax.specs.View.{body_view};
 ghost use Rattle.ir_terminals.specs.declared.values.PlacedName.{PlacedName};
 ghost use Rattle.name_rules.specs.TypeDemands as demands;
 ghost use Rattle.name_rules.specs.TypeDemands.{struct_measured, ends, body_types, struct_type_demands, struct_demands};
 ghost use Rattle.type_judge.specs.Gathered.{IsKnown, known_of};
 ghost use Rattle.type_judge.specs.Judging.{IsJudged};
-ghost use Rattle.struct_ends.specs.Mentioning.{AreMentions, structs_of};
+ghost use Rattle.type_judge.specs.Ends.Mentioning.{AreMentions, structs_of};
 ghost use Rattle.name_judge.specs.Seen.{AreFirst};
 
 use crate::seen::check_new;
 use ir_base::Place;
-use ir_constants::Type;
+use ir_phrases::constants::Type;
 use ir_syntax::WrittenBody;
 use ir_terminals::{CompactName, PlacedName};
 use name_rules::ResolveFault;
-use name_table::NameTable;
 use std::alloc::{AllocError, Global};
-use struct_ends::StructMentions;
+use type_judge::ends::StructMentions;
 use type_judge::{Known, ask, check_nesting, check_size, check_types, is_large};
 use type_table::Measure;
+use type_table::names::NameTable;
 
 /// The measure of the struct with that name.
 fn struct_measure(

@@ -3,7 +3,7 @@ use Rattle.std.specs.Prelude.{◌≡◌, refl, Bool, true, false, not, ◌&&◌,
 use Rattle.std.proofs.Common.{ap, sym, subst, inl, inr, arith}
 use Rattle.std.proofs.lemmas.Bool.{not-true}
 use Rattle.ir_terminals.specs.declared.values.PlacedName.{PlacedName}
-use Rattle.ir_constants.specs.Tree.{TypeTree, NamedType}
+use Rattle.ir_phrases.specs.Constants.Tree.{TypeTree, NamedType}
 use Rattle.ir_syntax.specs.Tree.{ItemTree, BodyTree, OpaqueBody, PlainBody, PackedBody, SourceFilename, DataLayout, TargetTriple, Struct, Variable, Alias, Declaration, Definition, Attributes, Metadata}
 use Rattle.type_table.specs.declared.measure.Measure.{Measure}
 use Rattle.type_table.specs.Limits.{IsWithinLimits}

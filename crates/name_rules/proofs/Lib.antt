@@ -13,3 +13,5 @@ pub mod Below
 mod Identifiers
 mod WorkedRows
 mod Modules
+pub mod OnReading
+pub mod OnPlaces

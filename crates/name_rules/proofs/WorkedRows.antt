@@ -9,18 +9,18 @@ use Rattle.name_rules.specs.Spelled.{digits_before}
 use Rattle.name_rules.specs.Measured.{measures_within, hold_within}
 use Rattle.name_rules.specs.ModuleOf.{module_of_items}
 use Rattle.name_rules.specs.Breaks.{first_break}
-use Rattle.ir_constants.specs.Constants.{constant_core, elements_core, expression_core, holder_core, operands_core, typed_core}
-use Rattle.ir_constants.specs.Flags.{flags_core}
+use Rattle.ir_phrases.specs.Constants.Constants.{constant_core, elements_core, expression_core, holder_core, operands_core, typed_core}
+use Rattle.ir_phrases.specs.Constants.Flags.{flags_core}
 use Rattle.ir_tables.specs.MayHave.{may_have}
-use Rattle.ir_constants.specs.Types.{fields_core, nest_core, type_core, types_core, value_type_core}
-use Rattle.ir_constants.specs.Values.{typed_value_core, value_core}
-use Rattle.ir_instructions.specs.Blocks.{block_core}
-use Rattle.ir_instructions.specs.Calls.{argument_core, argument_list_core, arguments_core, call_core, call_end_core, called_core, result_type_core, signature_core}
-use Rattle.ir_instructions.specs.Dropped.{attachments_core, function_attribute_core, function_attributes_core, parameter_attributes_core}
-use Rattle.ir_instructions.specs.Endings.{branch_core, branch_target_core, case_core, cases_core, ending_core, next_target_core, return_core, return_value_core, switch_core, switch_targets_core, target_core, unreachable_core}
-use Rattle.ir_instructions.specs.Instructions.{instruction_core, operation_over_core}
-use Rattle.ir_instructions.specs.Operations.{address_core, alloca_core, arms_core, binary_core, cast_core, cast_type_core, compare_core, element_address_core, extract_core, freeze_core, from_block_core, incoming_core, indices_core, insert_core, load_core, next_typed_value_core, next_value_core, operand_list_core, operands_core as operations_operands_core, operation_core, phi_core, select_core, store_core}
-use Rattle.ir_instructions.specs.Tails.{alignment_core, count_core, listed_core}
+use Rattle.ir_phrases.specs.Constants.Types.{fields_core, nest_core, type_core, types_core, value_type_core}
+use Rattle.ir_phrases.specs.Constants.Values.{typed_value_core, value_core}
+use Rattle.ir_phrases.specs.Instructions.Blocks.{block_core}
+use Rattle.ir_phrases.specs.Instructions.Calls.{argument_core, argument_list_core, arguments_core, call_core, call_end_core, called_core, result_type_core, signature_core}
+use Rattle.ir_phrases.specs.Instructions.Dropped.{attachments_core, function_attribute_core, function_attributes_core, parameter_attributes_core}
+use Rattle.ir_phrases.specs.Instructions.Endings.{branch_core, branch_target_core, case_core, cases_core, ending_core, next_target_core, return_core, return_value_core, switch_core, switch_targets_core, target_core, unreachable_core}
+use Rattle.ir_phrases.specs.Instructions.Instructions.{instruction_core, operation_over_core}
+use Rattle.ir_phrases.specs.Instructions.Operations.{address_core, alloca_core, arms_core, binary_core, cast_core, cast_type_core, compare_core, element_address_core, extract_core, freeze_core, from_block_core, incoming_core, indices_core, insert_core, load_core, next_typed_value_core, next_value_core, operand_list_core, operands_core as operations_operands_core, operation_core, phi_core, select_core, store_core}
+use Rattle.ir_phrases.specs.Instructions.Tails.{alignment_core, count_core, listed_core}
 use Rattle.ir_lexer.specs.Ahead.{ahead, ahead_within}
 use Rattle.ir_lexer.specs.Class.{byte_class}
 use Rattle.ir_lexer.specs.Form.{run as form_run}

@@ -1,8 +1,8 @@
 -- For `resolve`: the instructions and blocks that a text writes, as those of a module.
 use Rattle.std.specs.Prelude.{ℕ, false, cond, List, [], ◌∷◌, map, Option, Some, None, option_map}
-use Rattle.ir_constants.specs.Tree.{TypeTree, TypedValueTree}
-use Rattle.ir_instructions.specs.Tree.{SignatureTree, CallTree, IncomingTree, OperationTree, InstructionTree, CaseTree, EndingTree, BlockTree}
-use Rattle.ir_instructions.specs.Tree as tree
+use Rattle.ir_phrases.specs.Constants.Tree.{TypeTree, TypedValueTree}
+use Rattle.ir_phrases.specs.Instructions.Tree.{SignatureTree, CallTree, IncomingTree, OperationTree, InstructionTree, CaseTree, EndingTree, BlockTree}
+use Rattle.ir_phrases.specs.Instructions.Tree as tree
 use Rattle.type_table.specs.Tree.{Tree, ptr}
 use Rattle.module_arena.specs.Module.{Incoming, Signature, Operation, Instruction, Case, Ending, Block}
 use Rattle.module_arena.specs.Module as m

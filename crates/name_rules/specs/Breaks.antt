@@ -2,7 +2,7 @@
 use Rattle.std.specs.Prelude.{ℕ, nat_le, true, false, List, [], ◌∷◌, ◌++◌, length, filter_map, flat_map, map, Option, Some, None}
 use Rattle.ir_base.specs.declared.place.Place.{Place}
 use Rattle.ir_terminals.specs.declared.values.PlacedName.{PlacedName}
-use Rattle.ir_constants.specs.Tree.{TypeTree, ConstantTree}
+use Rattle.ir_phrases.specs.Constants.Tree.{TypeTree, ConstantTree}
 use Rattle.ir_syntax.specs.Tree.{ItemTree, VariableTree, AliasTypeTree, PlainAlias, FunctionAlias, AliasTree, HeadTree, SourceFilename, DataLayout, TargetTriple, Struct, Variable, Alias, Declaration, Definition, Attributes, Metadata}
 use Rattle.module_arena.specs.declared.arena.TheConstants.{COUNT_LIMIT}
 use Rattle.module_arena.specs.declared.fault.CountKind.{CountKind}

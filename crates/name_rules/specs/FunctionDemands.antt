@@ -4,8 +4,8 @@ use Rattle.ir_terminals.specs.declared.values.Integer.{Integer}
 use Rattle.ir_terminals.specs.declared.values.Local.{Local}
 use Rattle.ir_terminals.specs.declared.values.Local.TheVariants as locals
 use Rattle.ir_terminals.specs.declared.values.PlacedName.{PlacedName}
-use Rattle.ir_constants.specs.Tree.{ValueTree, LocalValue, ConstantValue, TypedValueTree}
-use Rattle.ir_instructions.specs.Tree.{SignatureTree, IncomingTree, OperationTree, Binary, Compare, Cast, Select, Freeze, Phi, Load, Store, Alloca, GetElementPtr, Call, ExtractValue, InsertValue, InstructionTree, CaseTree, EndingTree, ReturnVoid, Return, Jump, Branch, Switch, Unreachable, BlockTree}
+use Rattle.ir_phrases.specs.Constants.Tree.{ValueTree, LocalValue, ConstantValue, TypedValueTree}
+use Rattle.ir_phrases.specs.Instructions.Tree.{SignatureTree, IncomingTree, OperationTree, Binary, Compare, Cast, Select, Freeze, Phi, Load, Store, Alloca, GetElementPtr, Call, ExtractValue, InsertValue, InstructionTree, CaseTree, EndingTree, ReturnVoid, Return, Jump, Branch, Switch, Unreachable, BlockTree}
 use Rattle.ir_syntax.specs.Tree.{ParameterTree}
 use Rattle.type_table.specs.Tree.{Tree, ptr}
 use Rattle.name_rules.specs.declared.fault.ResolveFault.TheVariants as faults

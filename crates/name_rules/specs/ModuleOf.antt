@@ -3,8 +3,8 @@ use Rattle.std.specs.Prelude.{ℕ, Bool, false, List, [], ◌∷◌, map, filter
 use Rattle.ir_terminals.specs.declared.values.PlacedText.{PlacedText}
 use Rattle.ir_tables.specs.declared.linkage.Linkage.{Linkage}
 use Rattle.ir_tables.specs.declared.linkage.Linkage.TheVariants as linkage
-use Rattle.ir_constants.specs.Tree.{TypeTree}
-use Rattle.ir_instructions.specs.Tree.{BlockTree}
+use Rattle.ir_phrases.specs.Constants.Tree.{TypeTree}
+use Rattle.ir_phrases.specs.Instructions.Tree.{BlockTree}
 use Rattle.ir_syntax.specs.Tree.{ItemTree, VariableTree, AliasTypeTree, PlainAlias, FunctionAlias, AliasTree, ParameterTree, HeadTree, SourceFilename, DataLayout, TargetTriple, Struct, Variable, Alias, Declaration, Definition}
 use Rattle.type_table.specs.Tree.{TreeBody, Structs}
 use Rattle.module_arena.specs.Module.{Bytes, Parameter, Function, Module}

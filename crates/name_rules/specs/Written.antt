@@ -2,12 +2,12 @@
 use Rattle.std.specs.Prelude.{ℕ, ◌-◌, ◌%◌, ◌^◌, ◌==◌, Bool, true, false, List, Option, option_map, if◌then◌else◌}
 use Rattle.ir_tables.specs.declared.width.TheConstants.{WIDEST}
 use Rattle.ir_terminals.specs.declared.values.Integer.{Integer}
-use Rattle.ir_constants.specs.declared.constant.Simple.{Simple}
-use Rattle.ir_constants.specs.declared.constant.Simple.TheVariants as simple
-use Rattle.ir_constants.specs.declared.constant.Brackets as written_brackets
-use Rattle.ir_constants.specs.declared.constant.Brackets.TheVariants as brackets
-use Rattle.ir_constants.specs.Tree.{TypeTree, IntegerType, PointerType, VoidType, ArrayType, StructType, NamedType, TypeTrees, no_types, more_types, ConstantTree, ConstantTrees, TypedValueTree, ValueTree, LocalValue, ConstantValue}
-use Rattle.ir_constants.specs.Tree as tree
+use Rattle.ir_phrases.specs.declared.constants.constant.Simple.{Simple}
+use Rattle.ir_phrases.specs.declared.constants.constant.Simple.TheVariants as simple
+use Rattle.ir_phrases.specs.declared.constants.constant.Brackets as written_brackets
+use Rattle.ir_phrases.specs.declared.constants.constant.Brackets.TheVariants as brackets
+use Rattle.ir_phrases.specs.Constants.Tree.{TypeTree, IntegerType, PointerType, VoidType, ArrayType, StructType, NamedType, TypeTrees, no_types, more_types, ConstantTree, ConstantTrees, TypedValueTree, ValueTree, LocalValue, ConstantValue}
+use Rattle.ir_phrases.specs.Constants.Tree as tree
 use Rattle.ir_syntax.specs.Tree.{BodyTree, OpaqueBody, PlainBody, PackedBody}
 use Rattle.type_table.specs.Tree.{Tree, int, ptr, void, array, struct, named, Trees, no_trees, more_trees, TreeBody, opaque_body, fields}
 use Rattle.module_arena.specs.Module.{Constant, Constants, Value, Operand}

@@ -4,6 +4,11 @@
 //! module, and spells the names and numbers that refusals tell. Definitions: `specs/Reads`, of which `specs/ModuleOf` says
 //! which module it is, and `specs/Breaks` what the items ask for, in the order of the text.
 //!
+//! Its modules:
+//!
+//! - `reading`: The module that a text reads to is well formed.
+//! - `places`: The first break of the items of a text is told at the least place.
+//!
 //! ```
 //! spell_global(alloc, b"main")? // `@main`
 //! spell_global(alloc, b"a b")? // `@"a b"`
@@ -13,6 +18,8 @@
 
 mod fault;
 mod laws;
+pub mod places;
+pub mod reading;
 mod spelled;
 
 pub use fault::ResolveFault;

@@ -14,8 +14,8 @@ use Rattle.module_arena.specs.Module.{LocalName}
 use Rattle.module_arena.specs.Valid.{blocks_demands, entry_demands}
 use Rattle.module_arena.specs.View.{block_view, body_view, constants_of, local_view, module_of}
 use Rattle.type_table.specs.Types.{trees}
-use Rattle.use_verify.specs.Uses.{block_named, blocks_named, instruction_in}
-use Rattle.type_verify.specs.Judged.{Judged}
+use Rattle.instruction_verify.specs.Uses.Uses.{block_named, blocks_named, instruction_in}
+use Rattle.entry_verify.specs.Types.Judged.{Judged}
 use Rattle.path_verify.specs.Bodies.{body_demands}
 use Rattle.path_verify.specs.Ready.{block_in, blocks_in}
 

@@ -5,10 +5,10 @@ use Rattle.module_arena.specs.Module.{Block, Ending, Function, Instruction, Loca
 use Rattle.module_arena.specs.Operations.{ending_operands}
 use Rattle.module_arena.specs.Valid.{AllHold, Demand, InstructionOf, definedness_demands, ending_demands, instruction_demands, operand_uses, operation_phi_suits, operation_uses, ask}
 use Rattle.instruction_verify.specs.Parts.{ending_first_demands, ending_last_demands, first_demands, last_demands}
-use Rattle.type_verify.specs.declared.fault.VerifyFault.{VerifyFault}
-use Rattle.type_verify.specs.Judged.{Judged}
-use Rattle.type_verify.proofs.Judging.{fails_first}
-use Rattle.use_verify.specs.Uses.{place_at}
+use Rattle.entry_verify.specs.declared.types.fault.VerifyFault.{VerifyFault}
+use Rattle.entry_verify.specs.Types.Judged.{Judged}
+use Rattle.entry_verify.proofs.OnTypes.Judging.{fails_first}
+use Rattle.instruction_verify.specs.Uses.Uses.{place_at}
 use Rattle.path_verify.proofs.Ordered.{second_fails, third_fails, third_leads, fourth_leads}
 
 -- ---- an instruction

@@ -14,9 +14,9 @@ use Rattle.module_arena.specs.declared.instruction.Value as the_value
 use Rattle.module_arena.specs.declared.instruction.Value.TheVariants as value
 use Rattle.path_rows.specs.Operands.{end_operands_of, incoming_operand, operands_of}
 use Rattle.instruction_verify.specs.ArenaOperands as within
-use Rattle.last_verify.specs.CallsById as calls
-use Rattle.use_verify.specs.Classes.{HasClass}
-use Rattle.use_verify.specs.Uses as uses
+use Rattle.instruction_verify.specs.Last.CallsById as calls
+use Rattle.instruction_verify.specs.Uses.Classes.{HasClass}
+use Rattle.instruction_verify.specs.Uses.Uses as uses
 
 module _ (a : Lists) (values : ℕ) where
   abbrev Known : Operand → Type 0

@@ -6,9 +6,9 @@ use Rattle.std.proofs.lemmas.List.Folds.{list_all_more}
 use Rattle.std.proofs.lemmas.Option.{get_or_from_slice_get, slice_get_within}
 use Rattle.module_arena.specs.Module.{Block, Function, Instruction, Module}
 use Rattle.module_arena.specs.Valid.{AllHold, Demand, blocks_demands, ending_demands, instruction_demands, instructions_demands}
-use Rattle.type_verify.specs.declared.fault.VerifyFault.{VerifyFault}
-use Rattle.type_verify.specs.Judged.{Judged}
-use Rattle.type_verify.proofs.Judging.{fails_first, leads_past, Leads}
+use Rattle.entry_verify.specs.declared.types.fault.VerifyFault.{VerifyFault}
+use Rattle.entry_verify.specs.Types.Judged.{Judged}
+use Rattle.entry_verify.proofs.OnTypes.Judging.{fails_first, leads_past, Leads}
 use Rattle.path_verify.proofs.Counted.{drop_at}
 
 -- ---- lists of demands, one behind the other

@@ -16,11 +16,11 @@ use Rattle.type_table.specs.Types.{Types, trees}
 use Rattle.path_rows.specs.Numbers.{graph_of, names_of}
 use Rattle.path_rows.specs.Reflects.{Reflects}
 use Rattle.path_rows.specs.Table.{PassedRows}
-use Rattle.last_verify.specs.declared.local_type.LocalType.{LocalType}
-use Rattle.last_verify.specs.ValuesById.{AreLocalTypes, AreTypes, has_own_type}
-use Rattle.use_verify.specs.Uses.{AreRows, blocks_named, flow_in}
-use Rattle.use_verify.specs.Classes.{AreClasses}
-use Rattle.use_verify.specs.Given.{is_given}
+use Rattle.instruction_verify.specs.declared.last.local_type.LocalType.{LocalType}
+use Rattle.instruction_verify.specs.Last.ValuesById.{AreLocalTypes, AreTypes, has_own_type}
+use Rattle.instruction_verify.specs.Uses.Uses.{AreRows, blocks_named, flow_in}
+use Rattle.instruction_verify.specs.Uses.Classes.{AreClasses}
+use Rattle.instruction_verify.specs.Uses.Given.{is_given}
 
 -- a block of the function, in the module
 abbrev pub block_in : Lists → the_function.Function → the_block.Block → modules.Block

@@ -6,8 +6,8 @@ use Rattle.module_arena.specs.EntityView.{entity_view}
 use Rattle.module_arena.specs.Functions.{product, first_too_large}
 use Rattle.module_arena.specs.Module.{Bytes, Function, Module}
 use Rattle.module_arena.specs.Valid.{IsValid, IsFirstFailure}
-use Rattle.type_verify.specs.declared.fault.VerifyFault.{VerifyFault}
-use Rattle.type_verify.specs.declared.fault.VerifyFault.TheVariants as fault
+use Rattle.entry_verify.specs.declared.types.fault.VerifyFault.{VerifyFault}
+use Rattle.entry_verify.specs.declared.types.fault.VerifyFault.TheVariants as fault
 use Rattle.path_verify.specs.Bodies.{turns_of}
 
 -- what is told of a function that is too large

@@ -2,13 +2,13 @@
 ghost use Rattle.std.specs.Prelude.{flat_map};
 ghost use Rattle.module_arena.specs.Valid.{alias_demands, variable_demands};
 ghost use Rattle.module_arena.specs.View.{module_of};
-ghost use Rattle.type_verify.specs.Judged.{Judged};
+ghost use Rattle.entry_verify.specs.Types.Judged.{Judged};
 
 use crate::entries::{judge_alias, judge_variable};
-use constant_verify::Judge;
+use entry_verify::constants::Judge;
+use entry_verify::types::VerifyFault;
 use module_arena::{AliasId, VariableId};
 use std::alloc::Global;
-use type_verify::VerifyFault;
 
 /// What the variables of the arena are asked, in their order: the first fault of the first variable that has one.
 /// Ok where all hold; else the first that does not, with a copy of the name of what is at

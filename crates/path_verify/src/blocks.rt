@@ -4,16 +4,16 @@ ghost use Rattle.module_arena.specs.Changes.{function_in};
 ghost use Rattle.module_arena.specs.Lists.{function_blocks};
 ghost use Rattle.module_arena.specs.Valid.{blocks_demands, instructions_demands};
 ghost use Rattle.module_arena.specs.View.{module_of};
-ghost use Rattle.use_verify.specs.Edges.{MayBeSourced};
-ghost use Rattle.type_verify.specs.Judged.{Judged};
+ghost use Rattle.instruction_verify.specs.Uses.Edges.{MayBeSourced};
+ghost use Rattle.entry_verify.specs.Types.Judged.{Judged};
 ghost use Rattle.path_verify.specs.Ready.{IsReady, block_in, blocks_in};
 
 use crate::facts::FunctionFacts;
 use crate::instructions::{judge_ending, judge_instruction};
+use entry_verify::types::VerifyFault;
+use instruction_verify::uses::{PhiJudge, Site, is_phi};
 use module_arena::{Block, BlockId, Operand};
 use std::alloc::{AllocError, Global};
-use type_verify::VerifyFault;
-use use_verify::{PhiJudge, Site, is_phi};
 
 /// What the instructions of a block, and then its end, are asked. The first of them has that number.
 fn judge_block(

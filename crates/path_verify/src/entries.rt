@@ -5,19 +5,19 @@ ghost use Rattle.module_arena.specs.Known.{KnowsAlias, KnowsVariable, counts};
 ghost use Rattle.module_arena.specs.Valid.{alias_demands, variable_demands};
 ghost use Rattle.module_arena.specs.View.{module_of};
 ghost use Rattle.module_arena.specs.declared.entry.Function as the_function;
-ghost use Rattle.type_verify.specs.Judged.{Judged};
+ghost use Rattle.entry_verify.specs.Types.Judged.{Judged};
 ghost use Rattle.path_verify.specs.Heads.{head_demands};
 
-use constant_verify::Judge;
-use entry_rules::{
+use entry_verify::constants::Judge;
+use entry_verify::entries::{
     alias_names_suit, alias_suits, alias_types_suit, alignment_suits, appending_suits,
     common_suits, function_name_suits, function_types_suit, initialiser_fits,
     initialiser_takes_no_intrinsic, is_appending, is_common, linkage_suits, variable_name_suits,
     variable_types_suit,
 };
+use entry_verify::types::{VerifyFault, asked, judge_global};
 use module_arena::{Alias, FunctionId, Variable};
 use std::alloc::Global;
-use type_verify::{VerifyFault, asked, judge_global};
 
 /// What a variable of the arena is asked: a fault of the first of the rules 2 to 7 and 18 that does not hold, at the variable.
 /// Ok where all hold; else the first that does not, with a copy of the name of what is at

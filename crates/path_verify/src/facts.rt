@@ -1,7 +1,7 @@
 //! What is known of a function before its blocks are judged.
 
-use constant_verify::Judge;
-use last_verify::LocalType;
+use entry_verify::constants::Judge;
+use instruction_verify::last::LocalType;
 use module_arena::Function;
 use path_rows::Rows;
 

@@ -5,20 +5,20 @@ ghost use Rattle.module_arena.specs.Changes.{function_in};
 ghost use Rattle.module_arena.specs.Valid.{function_demands};
 ghost use Rattle.module_arena.specs.View.{module_of};
 ghost use Rattle.module_arena.specs.WellFormed.{IsWellFormed};
-ghost use Rattle.type_verify.specs.Judged.{Judged};
+ghost use Rattle.entry_verify.specs.Types.Judged.{Judged};
 ghost use Rattle.path_verify.specs.Bodies.{turns_of};
 ghost use Rattle.path_verify.specs.Ready.{AreNumbers};
 ghost use Rattle.path_verify.specs.Verified.{all_turns};
 
 use crate::bodies::judge_body;
 use crate::entries::judge_function;
-use constant_verify::Judge;
-use last_verify::LocalType;
+use entry_verify::constants::Judge;
+use entry_verify::types::VerifyFault;
+use instruction_verify::last::LocalType;
 use module_arena::{FunctionId, Operand};
 use path_rows::{Spare, Steps};
 use std::alloc::Global;
 use std::sync::ledger::Ledger;
-use type_verify::VerifyFault;
 
 /// What the rules say of a function and all in it. `kept` has a number for each constant of the module, one for two exactly where they
 /// are the same, or nothing yet; what `value_types`, `operands` and `spare` have does not matter.

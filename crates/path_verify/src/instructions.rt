@@ -8,21 +8,21 @@ ghost use Rattle.module_arena.specs.Module as modules;
 ghost use Rattle.module_arena.specs.Valid.{ending_demands, instruction_demands};
 ghost use Rattle.module_arena.specs.View.{module_of};
 ghost use Rattle.path_rows.specs.Operands.{end_operands_of, operands_of};
-ghost use Rattle.use_verify.specs.Edges.{MayBeSourced};
-ghost use Rattle.type_verify.specs.Judged.{Judged};
-ghost use Rattle.use_verify.specs.Uses.{block_named, ending_in, instruction_in};
+ghost use Rattle.instruction_verify.specs.Uses.Edges.{MayBeSourced};
+ghost use Rattle.entry_verify.specs.Types.Judged.{Judged};
+ghost use Rattle.instruction_verify.specs.Uses.Uses.{block_named, ending_in, instruction_in};
 ghost use Rattle.path_verify.specs.Ready.{IsReady, KnowsEnding, KnowsInstruction};
 
 use crate::facts::FunctionFacts;
+use entry_verify::types::VerifyFault;
+use instruction_verify::last::{ending_types_pass, judge_ending_last, judge_last, types_pass};
+use instruction_verify::uses::{
+    PhiJudge, Site, ending_uses_pass, is_phi, judge_ending_uses, judge_uses, uses_pass,
+};
 use instruction_verify::{judge_ending_first, judge_instruction_first};
-use last_verify::{ending_types_pass, judge_ending_last, judge_last, types_pass};
 use module_arena::{Ending, Inst, Operand};
 use path_rows::{gather, gather_ending};
 use std::alloc::Global;
-use type_verify::VerifyFault;
-use use_verify::{
-    PhiJudge, Site, ending_uses_pass, is_phi, judge_ending_uses, judge_uses, uses_pass,
-};
 
 /// What an instruction is asked, rule by rule. It stands apart from an instruction other than a phi of which all rules hold, so that
 /// that needs no room for a fault.

@@ -1,6 +1,6 @@
 //! Whether a module is valid.
 //!
-//! It stands on `entry_rules`, `instruction_verify`, `last_verify` and `use_verify`. It promises that a module is accepted exactly where no function
+//! It stands on `entry_verify::entries`, `instruction_verify`, `instruction_verify::last` and `instruction_verify::uses`. It promises that a module is accepted exactly where no function
 //! is too large and all that it is asked for holds, and that else the first function that is too large, or the first demand that does
 //! not hold, is told; and how often blocks are spread at most. Definitions: `specs/Verified`, and `Valid` of `module_arena`.
 //!

@@ -3,11 +3,11 @@ ghost use Rattle.module_arena.specs.Valid.{module_demands};
 ghost use Rattle.module_arena.specs.View.{module_of};
 ghost use Rattle.module_arena.specs.LayoutText as rules;
 ghost use Rattle.std.specs.Prelude.{◌≡◌};
-ghost use Rattle.type_verify.specs.Judged.{Judged};
+ghost use Rattle.entry_verify.specs.Types.Judged.{Judged};
 
 use crate::layout_text::has_own_layout;
+use entry_verify::types::{VerifyFault, asked, judge_module};
 use module_arena::Arena;
-use type_verify::{VerifyFault, asked, judge_module};
 
 /// Whether the data layout of the module, where it has one, is little endian with pointers of 64 bits.
 fn layout_suits(arena: &Arena) -> bool

@@ -5,13 +5,13 @@ ghost use Rattle.std.specs.Option.{option_to_list};
 ghost use Rattle.std.specs.List.{list_all};
 ghost use Rattle.module_arena.specs.Known.{HasOperand};
 ghost use Rattle.path_rows.specs.Operands.{operands_of, pair};
-ghost use Rattle.last_verify.specs.ValuesById.{AreTypes};
+ghost use Rattle.instruction_verify.specs.Last.ValuesById.{AreTypes};
 ghost use Rattle.path_verify.specs.Ready.{operand_passes};
 
-use constant_verify::Judge;
-use last_verify::{LocalType, has_type};
+use entry_verify::constants::Judge;
+use instruction_verify::last::{LocalType, has_type};
+use instruction_verify::uses::is_value_given;
 use module_arena::{Inst, Operand, Value};
-use use_verify::is_value_given;
 
 /// Whether an operand has the type that is written before it, and is a constant or one of the first so many values.
 #[inline(always)]

@@ -6,9 +6,9 @@ ghost use Rattle.module_arena.specs.Known.{KnowsFunction};
 ghost use Rattle.module_arena.specs.View.{module_of};
 ghost use Rattle.path_verify.specs.Verified.{Sized};
 
+use entry_verify::types::VerifyFault;
 use module_arena::{Arena, Function, FunctionId, LARGEST_PRODUCT};
 use std::alloc::Global;
-use type_verify::VerifyFault;
 
 /// Blocks times values of a function.
 fn product_of(arena: &Arena, function: &Function) -> u64

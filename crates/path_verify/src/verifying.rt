@@ -3,20 +3,20 @@ ghost use Rattle.std.specs.Prelude.{◌≡◌, ◌<◌, ◌≤◌, ◌+◌, IfOk
 ghost use Rattle.module_arena.specs.Valid.{demands};
 ghost use Rattle.module_arena.specs.View.{module_of};
 ghost use Rattle.module_arena.specs.WellFormed.{IsWellFormed};
-ghost use Rattle.type_verify.specs.Judged.{Judged};
+ghost use Rattle.entry_verify.specs.Types.Judged.{Judged};
 ghost use Rattle.path_verify.specs.Verified.{Verifies, all_turns};
 
 use crate::all_entries::{judge_aliases, judge_variables};
 use crate::functions::judge_functions;
 use crate::module_line::judge_module_line;
 use crate::sizes::judge_sizes;
-use constant_verify::Judge;
+use entry_verify::constants::Judge;
+use entry_verify::types::VerifyFault;
 use module_arena::{Arena, Checked};
 use path_rows::Steps;
 use std::alloc::Global;
 use std::marker::Brand;
 use std::sync::ledger::{Blank, Ledger};
-use type_verify::VerifyFault;
 
 /// What the rules say of a module, in their order.
 fn judge_rules<L: Ledger>(

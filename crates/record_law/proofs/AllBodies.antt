@@ -12,8 +12,8 @@ use Rattle.record_table.specs.Spelling.{put, put_bodies, records_put, body_lines
 use Rattle.module_arena.specs.Names.{parameter_names}
 use Rattle.record_table.specs.Listed.{IsLabel}
 use Rattle.record_table.specs.Lays.{Lays}
-use Rattle.record_bodies.specs.Laws.{HasRead}
-use Rattle.record_bodies.proofs.WholeBody.{body_back}
+use Rattle.record_law.specs.Bodies.Laws.{HasRead}
+use Rattle.record_law.proofs.OnBodies.WholeBody.{body_back}
 use Rattle.record_law.specs.FittingModules.{declared, settled, due, PartsFit, FunctionFits}
 use Rattle.record_law.proofs.FunctionsBack.{declared_count, with_body_back, first_past, give_past, settle}
 

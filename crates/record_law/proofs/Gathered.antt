@@ -13,7 +13,7 @@ use Rattle.record_table.specs.Lays.{Lays}
 use Rattle.record_table.specs.Records.{names_of, variable, function, alias}
 use Rattle.record_table.specs.Spelling.{Line, put, put_block, put_bodies, put_module, records_put, text_line, head_lines, type_lines, body_of, numbering}
 use Rattle.record_table.specs.Mentions.{mentioned}
-use Rattle.record_bodies.proofs.BodyBack.{put_append}
+use Rattle.record_law.proofs.OnBodies.BodyBack.{put_append}
 
 module _ (t : Texts) (lays_name : Lays (IsName t) (name t)) where
   -- a name in front of other operands

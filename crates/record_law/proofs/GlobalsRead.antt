@@ -16,7 +16,7 @@ use Rattle.record_law.proofs.GlobalsBack.{DeclarationFits, lays_variable, lays_f
 use Rattle.record_law.proofs.AliasesBack.{lays_alias}
 use Rattle.record_law.specs.FittingModules.{declared, due, Globals, with_globals, EachFits, after_variable, after_function, after_alias, VariableFollows, FunctionFollows, AliasFollows}
 use Rattle.record_law.proofs.FunctionsBack.{declared_types}
-use Rattle.record_types.proofs.Judged.{judged_from}
+use Rattle.record_law.proofs.OnTypes.Judged.{judged_from}
 
 module _ (s : Sofar) where
   each_back : {A : Type 0} (code : ℕ) (spell : A → List ℕ) (next : Globals → A → Globals) (fits : Globals → A → Type 0)

@@ -11,7 +11,7 @@ use Rattle.record_table.specs.Spelling.{put, records_put, text_line, head_lines}
 use Rattle.record_table.specs.FittingLines.{IfSome}
 use Rattle.record_law.specs.FittingModules.{at_text}
 use Rattle.record_table.specs.Lays.{Lays}
-use Rattle.record_bodies.proofs.BodyBack.{put_append}
+use Rattle.record_law.proofs.OnBodies.BodyBack.{put_append}
 
 -- what is read behind a text, where there is one
 abbrev pub behind_text : Sofar → ℕ → (Option Bytes → Sofar) → Option Bytes → Sofar

@@ -14,3 +14,10 @@ mod Gathered
 mod RereadBodies
 mod RereadModules
 pub mod Joined
+pub mod OnContent
+pub mod OnBodies
+pub mod OnLabels
+pub mod OnTypes
+pub mod OnFits
+pub mod OnAlone
+pub mod OnFormed

@@ -9,7 +9,7 @@ use Rattle.record_table.specs.Records.{Sofar, variable, function, alias, module_
 use Rattle.record_table.specs.Spelling.{Line, put, put_bodies, records_put, body_of}
 use Rattle.record_table.specs.Listed.{IsName, IsLabel}
 use Rattle.record_table.specs.Lays.{Lays}
-use Rattle.record_bodies.proofs.BodyBack.{put_append}
+use Rattle.record_law.proofs.OnBodies.BodyBack.{put_append}
 use Rattle.record_law.specs.FittingModules.{settled, due, Globals, with_globals, after_variable, after_function, after_alias, none_yet, behind_variables, behind_functions, TailFits, IsRead}
 use Rattle.record_law.proofs.AllBodies.{IsPast, AllRead, bodies_back, bodies_of}
 use Rattle.record_law.proofs.GlobalsRead.{variables_back, functions_back, aliases_back}

@@ -10,8 +10,8 @@ use Rattle.record_table.specs.Faults.{Answer}
 use Rattle.record_table.specs.Bodies.{numbers_from}
 use Rattle.record_table.specs.Records.{Sofar, may_follow, types_rank, variables_rank, functions_rank, aliases_rank, is_new, types_of, parameters_of, module_of}
 use Rattle.record_table.specs.Spelling.{texts_of, texts_in, numbering}
-use Rattle.record_bodies.specs.FittingBodies.{BodyFits}
-use Rattle.record_types.specs.ReadTypes.{TypesAreRead}
+use Rattle.record_law.specs.Bodies.FittingBodies.{BodyFits}
+use Rattle.record_law.specs.Types.ReadTypes.{TypesAreRead}
 use Rattle.record_law.specs.FittingEntries.{VariableFits, AliasFits}
 
 -- what its record says of a function

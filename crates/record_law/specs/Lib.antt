@@ -1,3 +1,10 @@
 pub mod FittingEntries
 pub mod FittingModules
 pub mod Laws
+pub mod Content
+pub mod Bodies
+pub mod Labels
+pub mod Types
+pub mod Fits
+pub mod Alone
+pub mod Formed

@@ -7,3 +7,5 @@ pub mod Gathering
 pub mod Coded
 pub mod Sized
 pub mod AllBytes
+pub mod OnOpening
+pub mod OnOrder

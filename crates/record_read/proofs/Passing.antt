@@ -2,9 +2,9 @@
 use Rattle.std.proofs.Common.{◌≡◌, ◌≤◌, ◌<◌, ◌+◌, ◌-◌, ℕ, Bool, true, false, List, ◌∷◌, ◌++◌, length, Option, Some, None, Ok, arith}
 use Rattle.bit_tree.specs.Pieces.{Piece, ended, flat}
 use Rattle.bit_tree.specs.Stream.{StreamTree}
-use Rattle.bit_walk.specs.Walker.{Walker, Gave, Walks, piece_of}
-use Rattle.bit_walk.specs.declared.event.Event.{Event}
-use Rattle.bit_walk.specs.declared.event.Event.TheVariants.{Begun, Ended, Defined, Held}
+use Rattle.bit_dump.specs.Walk.Walker.{Walker, Gave, Walks, piece_of}
+use Rattle.bit_dump.specs.declared.walk.event.Event.{Event}
+use Rattle.bit_dump.specs.declared.walk.event.Event.TheVariants.{Begun, Ended, Defined, Held}
 use Rattle.record_table.specs.Faults.{Records}
 use Rattle.record_read.specs.Entries.{IsBefore}
 use Rattle.record_read.proofs.Closing.{IsClosing, after_begun, after_ended, after_held, after_defined, not_over, all_closed}

@@ -3,3 +3,5 @@ pub mod Entries
 pub mod Faults
 pub mod Fields
 pub mod Counts
+pub mod Opening
+pub mod Order

@@ -1,9 +1,16 @@
 //! Reading records over a judged stream: entry by entry, and the operands of a record one by one, with the least rule that
 //! they break.
 //!
-//! It stands on the walker of `bit_walk`, and holds no operands. It promises that the fields are read by their layouts, a
+//! It stands on the walker of `bit_dump::walk`, and holds no operands. It promises that the fields are read by their layouts, a
 //! rule that is broken and what follows included, and that BLOCKINFO and definitions are passed over. Definitions: `Walk`,
 //! `Layout`, `Fields`, `StringTable` and `Faults` of `record_table`, and `specs/`.
+//!
+//! Its modules:
+//!
+//! - `opening`: What stands in front of the block of a module in a stream, and behind it: the block
+//!   that names the producer, and the string table where there is one.
+//! - `order`: The order of a module's block: what stands in it, its version and its texts, whose
+//!   body is due, and what is missing at its end.
 //!
 //! ```
 //! let mut reader = RecordReader::new(alloc, bytes);
@@ -21,6 +28,8 @@ mod entry;
 mod fault;
 mod lists;
 mod numbers;
+pub mod opening;
+pub mod order;
 mod reader;
 mod texts;
 

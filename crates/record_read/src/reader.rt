@@ -12,7 +12,7 @@ ghost use Rattle.record_read.specs.Entries.{IsBefore, Advances, Passes};
 
 use crate::entry::NextEntry;
 use crate::fault::BitcodeFault;
-use bit_walk::{Event, Walker};
+use bit_dump::walk::{Event, Walker};
 use std::alloc::{AllocError, Global};
 use std::marker::Model;
 

@@ -11,7 +11,7 @@ use Rattle.record_table.proofs.TextsBack as empty
 use Rattle.record_table.specs.Constants.{constant, value}
 use Rattle.record_table.specs.Lines.{instruction, ending, operation_opcode, ending_opcode}
 use Rattle.record_table.specs.FittingConstants.{Fits, ValueFits}
-use Rattle.record_table.specs.FittingLines.{IsCallResult, OperationFits, IsResult, InstructionFits, EndingFits}
+use Rattle.record_table.specs.FittingLines.{IsCallResult, IsResult, InstructionFits, EndingFits}
 use Rattle.record_table.proofs.InstructionsBack as lines
 use Rattle.record_table.proofs.EndingsBack as ends
 use Rattle.record_table.specs.StringTable.{version_2}

@@ -1,12 +1,12 @@
 -- Worked rows: the order of records and types, and what is refused out of order.
-use Rattle.std.specs.Prelude.{◌≡◌, refl, ℕ, true, false, List, [], ◌∷◌, Option, Some, None, codes}
+use Rattle.std.specs.Prelude.{◌≡◌, refl, ℕ, true, false, List, [], ◌∷◌, Some, None, codes}
 use Rattle.bit_tree.specs.Stream as stream
 use Rattle.ir_tables.specs.declared.opcode.Opcode.TheVariants as op
 use Rattle.type_table.specs.Tree.{int, named, no_trees, more_trees, fields}
 use Rattle.module_arena.specs.Module.{Module, empty_module}
 use Rattle.record_table.specs.Fields.{version_1}
 use Rattle.record_table.specs.Lines.{instruction}
-use Rattle.record_table.specs.Faults.{RecordFault, BadRecord, Records, no_more, a_block}
+use Rattle.record_table.specs.Faults.{BadRecord, Records, no_more, a_block}
 use Rattle.record_table.specs.Records.{record_fault, producer}
 use Rattle.record_table.specs.Mentions.{mentioned}
 use Rattle.record_table.proofs.Rows.{computed, only, ours, refused, of_types, lines}

@@ -1,9 +1,9 @@
 -- Worked rows: the empty module, and what is refused in blocks and in types.
 use Rattle.std.specs.Prelude.{◌≡◌, refl, ℕ, zero, suc, ◌/◌, Bool, true, false, List, [], ◌∷◌, ◌++◌, length, take, drop, Option, Some, Ok, codes}
-use Rattle.bits.specs.Bits.{bits_of}
-use Rattle.bits.specs.Reading.{bytes_of}
-use Rattle.bits.specs.Writing.{vbr_bits}
-use Rattle.bits.specs.Bits.{value}
+use Rattle.bit_stream.specs.Bits.Bits.{bits_of}
+use Rattle.bit_stream.specs.Bits.Reading.{bytes_of}
+use Rattle.bit_stream.specs.Bits.Writing.{vbr_bits}
+use Rattle.bit_stream.specs.Bits.Bits.{value}
 use Rattle.bit_stream.specs.Spelling as spelled
 use Rattle.bit_stream.specs.Writer.{begun}
 use Rattle.bit_tree.specs.Written.{Written, no_more as nothing_more, a_definition, a_record as one_record, written}

@@ -1,5 +1,5 @@
 -- For `write` and `read` of bitcode: how values stand as operands, and how operands are read as values.
-use Rattle.std.specs.Prelude.{ℕ, zero, suc, nat_lt, nat_eq, Bool, true, false, List, [], ◌∷◌, ◌++◌, length, flat_map, ◌⊎◌, Option, Some, None, slice_index_or, if◌then◌else◌}
+use Rattle.std.specs.Prelude.{ℕ, zero, suc, nat_lt, Bool, true, false, List, [], ◌∷◌, ◌++◌, length, flat_map, ◌⊎◌, Option, Some, None, slice_index_or, if◌then◌else◌}
 use mathlib.Core.Logic.{inl, inr}
 use Rattle.record_table.specs.Walk.{Walk, going, stopped, ask, stop, break, next, count_left, told}
 

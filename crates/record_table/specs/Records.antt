@@ -7,7 +7,7 @@ use Rattle.type_table.specs.Types.{trees, structs}
 use Rattle.module_arena.specs.declared.arena.TheConstants.{COUNT_LIMIT}
 use Rattle.module_arena.specs.Module.{Bytes, LocalName, Variable, AliasType, PlainType, FunctionType, Alias, Function, Parameter, Module}
 use Rattle.bit_tree.specs.Stream as stream
-use Rattle.record_table.specs.Layout.{Layout, number, mapped, asking, ◌&◌, ◌&>◌, counted, to_end, option, either, times, judged}
+use Rattle.record_table.specs.Layout.{Layout, number, mapped, ◌&◌, ◌&>◌, counted, to_end, option, either, times, judged}
 use Rattle.record_table.specs.Fields.{Texts, version_1, Numbering, ty, target, byte, truth, name, alignment, linkage}
 use Rattle.record_table.specs.StringTable.{read_only}
 use Rattle.record_table.specs.Constants.{constant}

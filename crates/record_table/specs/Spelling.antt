@@ -1,7 +1,7 @@
 -- For `write` of bitcode: the one spelling of a module.
 use Rattle.std.specs.Prelude.{◌≡◌, ◌↔◌, ℕ, ◌+◌, ◌/◌, Bool, List, [], ◌∷◌, ◌++◌, length, map, flat_map, filter_map, option_to_list, option_map, Option, is_some}
 use Rattle.ir_tables.specs.Opcode.{opcode_code}
-use Rattle.bits.specs.Reading.{bytes_of}
+use Rattle.bit_stream.specs.Bits.Reading.{bytes_of}
 use Rattle.bit_stream.specs.declared.abbreviation.AbbrevOp.{AbbrevOp}
 use Rattle.bit_stream.specs.declared.abbreviation.AbbrevOp.TheVariants.{Fixed, Vbr, Array}
 use Rattle.bit_stream.specs.Writer.{begun}

@@ -7,9 +7,7 @@ use Rattle.type_table.specs.declared.ir_type.IrType.TheVariants.{Int, Ptr, Void,
 use Rattle.type_table.specs.declared.ir_type.StructBody.{StructBody}
 use Rattle.type_table.specs.declared.ir_type.StructBody.TheVariants.{Opaque, Plain, Packed}
 use Rattle.type_table.specs.Types.{Types, with_type, with_body}
-use Rattle.type_table.specs.Limits.{all_shapes, array_length}
-use Rattle.type_table.specs.Layout.{has_layout, size}
-use Rattle.type_table.specs.Shape.{Shape, nesting, parts}
+use Rattle.type_table.specs.Limits.{all_shapes}
 use Rattle.module_arena.specs.declared.arena.TheConstants.{COUNT_LIMIT}
 use Rattle.module_arena.specs.Module.{Bytes}
 use Rattle.module_arena.specs.WellFormed.{is_within_limits}

@@ -13,9 +13,9 @@ use Rattle.run_rules.specs.Action.{Action, Compute, Compare, Convert}
 use Rattle.run_rules.specs.Calls.{Callee}
 use Rattle.run_rules.specs.Frame.{with_value, with_result}
 use Rattle.run_rules.specs.State.{Frame, Due, Core, Goes, goes, fails}
-use Rattle.run_stack.specs.declared.origin.Origin.{Origin}
-use Rattle.run_stack.specs.Origins.{origin_of}
-use Rattle.run_stack.specs.UnderWay.{UnderWay, newest, older, on_newest, changed, IsRunning}
+use Rattle.run_actions.specs.declared.stack.origin.Origin.{Origin}
+use Rattle.run_actions.specs.Stack.Origins.{origin_of}
+use Rattle.run_actions.specs.Stack.UnderWay.{UnderWay, newest, older, on_newest, changed, IsRunning}
 use Rattle.run_actions.specs.Carried.{core_of, IsCarriedOut, IsUndefined}
 use Rattle.run_actions.specs.Operands.{leaf_of}
 

@@ -9,10 +9,10 @@ use Rattle.run_rules.specs.Act.{branches, switches, case_of}
 use Rattle.run_rules.specs.Action.{Edge, Jump, Branch, Switch}
 use Rattle.run_rules.specs.Frame.{followed}
 use Rattle.run_rules.specs.State.{Frame, Core, goes, fails}
-use Rattle.run_stack.specs.declared.origin.Move.{Move}
-use Rattle.run_stack.specs.declared.origin.Origin.{Origin}
-use Rattle.run_stack.specs.Origins.{origin_of}
-use Rattle.run_stack.specs.UnderWay.{UnderWay, newest, changed, IsRunning}
+use Rattle.run_actions.specs.declared.stack.origin.Move.{Move}
+use Rattle.run_actions.specs.declared.stack.origin.Origin.{Origin}
+use Rattle.run_actions.specs.Stack.Origins.{origin_of}
+use Rattle.run_actions.specs.Stack.UnderWay.{UnderWay, newest, changed, IsRunning}
 use Rattle.run_actions.specs.declared.edge.SwitchWay.{SwitchWay}
 use Rattle.run_actions.specs.declared.edge.Edge as code
 use Rattle.run_actions.specs.Carried.{IsCarriedOut, IsUndefined}

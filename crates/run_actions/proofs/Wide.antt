@@ -7,9 +7,9 @@ use Rattle.ir_eval.specs.Operators.{freeze_of, select_of}
 use Rattle.run_rules.specs.Action.{Gather, Select, Freeze}
 use Rattle.run_rules.specs.Frame.{read_all, with_result}
 use Rattle.run_rules.specs.State.{goes}
-use Rattle.run_stack.specs.declared.origin.Origin.{Origin}
-use Rattle.run_stack.specs.Origins.{origin_of}
-use Rattle.run_stack.specs.UnderWay.{UnderWay, newest, changed, Fits, IsRunning}
+use Rattle.run_actions.specs.declared.stack.origin.Origin.{Origin}
+use Rattle.run_actions.specs.Stack.Origins.{origin_of}
+use Rattle.run_actions.specs.Stack.UnderWay.{UnderWay, newest, changed, Fits, IsRunning}
 use Rattle.run_actions.specs.declared.values.Arm.{Arm}
 use Rattle.run_actions.specs.declared.values.FrozenLeaf.{FrozenLeaf}
 use Rattle.run_actions.specs.Carried.{IsCarriedOut}

@@ -7,7 +7,7 @@ use Rattle.run_rules.specs.Act.{act}
 use Rattle.run_rules.specs.Action.{Action}
 use Rattle.run_rules.specs.Calls.{Callee}
 use Rattle.run_rules.specs.State.{Frame, Due, Core, Next, Goes, fails}
-use Rattle.run_stack.specs.UnderWay.{UnderWay, newest, older}
+use Rattle.run_actions.specs.Stack.UnderWay.{UnderWay, newest, older}
 
 -- what an instruction sees beside the frame that it stands in
 abbrev pub core_of : List Frame → List Due → Blocks → Core

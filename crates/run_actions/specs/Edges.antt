@@ -2,9 +2,9 @@
 use Rattle.std.specs.Prelude.{ℕ, ◌-◌, ◌≤◌, nat_eq, List, [], ◌∷◌, length, take, drop, if◌then◌else◌}
 use Rattle.std.specs.List.{All}
 use Rattle.run_rules.specs.Action as actions
-use Rattle.run_stack.specs.declared.origin.Move.{Move}
-use Rattle.run_stack.specs.Origins.{edge_of, IsMoveIn}
-use Rattle.run_stack.specs.UnderWay.{UnderWay, newest}
+use Rattle.run_actions.specs.declared.stack.origin.Move.{Move}
+use Rattle.run_actions.specs.Stack.Origins.{edge_of, IsMoveIn}
+use Rattle.run_actions.specs.Stack.UnderWay.{UnderWay, newest}
 use Rattle.run_actions.specs.declared.edge.Edge.{Edge}
 use Rattle.run_actions.specs.declared.edge.SwitchWay.{SwitchWay}
 

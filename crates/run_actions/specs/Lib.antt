@@ -2,3 +2,9 @@ pub mod Carried
 pub mod Operands
 pub mod Edges
 pub mod Values
+pub mod Stack
+pub mod Accesses
+pub mod Ends
+pub mod Loops
+pub mod Passing
+pub mod Hosts

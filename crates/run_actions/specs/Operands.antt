@@ -2,9 +2,9 @@
 use Rattle.std.specs.Prelude.{ℕ, ◌+◌, ◌^◌, ◌<◌, ◌≤◌, length}
 use Rattle.ir_eval.specs.declared.value.Scalar.{Scalar}
 use Rattle.run_rules.specs.Frame.{read}
-use Rattle.run_stack.specs.declared.origin.Origin.{Origin}
-use Rattle.run_stack.specs.Origins.{IsIn, origin_of}
-use Rattle.run_stack.specs.UnderWay.{UnderWay, IsRunning, newest}
+use Rattle.run_actions.specs.declared.stack.origin.Origin.{Origin}
+use Rattle.run_actions.specs.Stack.Origins.{IsIn, origin_of}
+use Rattle.run_actions.specs.Stack.UnderWay.{UnderWay, IsRunning, newest}
 
 -- the leaf that an operand has in the newest frame
 abbrev pub leaf_of : UnderWay → Origin → Scalar

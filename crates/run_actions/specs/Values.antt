@@ -1,8 +1,8 @@
 -- For `select` and `freeze`: the operands of an action as the code has them, a leaf of each.
 use Rattle.std.specs.Prelude.{Bool}
 use Rattle.run_rules.specs.Action as actions
-use Rattle.run_stack.specs.Origins.{origin_of}
-use Rattle.run_stack.specs.UnderWay.{UnderWay}
+use Rattle.run_actions.specs.Stack.Origins.{origin_of}
+use Rattle.run_actions.specs.Stack.UnderWay.{UnderWay}
 use Rattle.run_actions.specs.declared.values.Arm.{Arm}
 use Rattle.run_actions.specs.declared.values.FrozenLeaf.{FrozenLeaf}
 use Rattle.run_actions.specs.Operands.{IsThere}

@@ -1,11 +1,11 @@
 //! The result of an instruction.
 ghost use Rattle.std.specs.Prelude.{◌≡◌, ◌∷◌, [], length};
 ghost use Rattle.run_rules.specs.Frame.{with_result, with_value};
-ghost use Rattle.run_stack.specs.UnderWay.{changed};
+ghost use Rattle.run_actions.specs.Stack.UnderWay.{changed};
 ghost use Rattle.run_actions.specs.Operands.{HasPlaces, IsPlace, MayGoOn};
 
+use crate::stack::Stack;
 use ir_eval::Scalar;
-use run_stack::Stack;
 
 /// The item of a list that has one.
 #[inline]

@@ -5,14 +5,14 @@ ghost use Rattle.ir_eval.specs.Compare.{AreComparable};
 ghost use Rattle.ir_eval.specs.Operators.{is_binary};
 ghost use Rattle.ir_eval.specs.Value.{IsInteger, IsWidth};
 ghost use Rattle.run_rules.specs.Action.{Compare, Compute, Convert};
-ghost use Rattle.run_stack.specs.Origins.{origin_of};
+ghost use Rattle.run_actions.specs.Stack.Origins.{origin_of};
 ghost use Rattle.run_actions.specs.Carried.{Acts, IsCarriedOut};
 ghost use Rattle.run_actions.specs.Operands.{IsPlace, IsThere, leaf_of, MayGoOn};
 
 use crate::result::give;
+use crate::stack::{Origin, Stack};
 use ir_eval::{binary, cast};
 use ir_tables::{Flags, Opcode, Predicate, UndefinedKind};
-use run_stack::{Origin, Stack};
 
 /// A binary instruction on integers (LangRef, "Binary Operations", "Bitwise Binary Operations"). Widths are in bits.
 ///

@@ -3,14 +3,14 @@ ghost use Rattle.std.specs.Prelude.{◌≡◌, ◌<◌, All, OnErr, OnOk, length
 ghost use Rattle.ir_eval.specs.Operators.{freeze_of, select_of};
 ghost use Rattle.ir_eval.specs.Value.{IsInteger};
 ghost use Rattle.run_rules.specs.Action.{Freeze, Gather, Select};
-ghost use Rattle.run_stack.specs.Origins.{origin_of};
+ghost use Rattle.run_actions.specs.Stack.Origins.{origin_of};
 ghost use Rattle.run_actions.specs.Carried.{IsCarriedOut};
 ghost use Rattle.run_actions.specs.Operands.{HasPlaces, IsThere, leaf_of, MayGoOn};
 ghost use Rattle.run_actions.specs.Values.{arm_of, IsArmThere, IsPartThere, part_of};
 
 use crate::result::{give, give_all, only};
+use crate::stack::{Origin, Stack};
 use ir_eval::Scalar;
-use run_stack::{Origin, Stack};
 use std::alloc::AllocError;
 
 /// A leaf of each of the two operands of a select.

@@ -3,16 +3,16 @@ ghost use Rattle.std.specs.Prelude.{◌≡◌, All, map};
 ghost use Rattle.ir_eval.specs.Value.{IsInteger};
 ghost use Rattle.run_rules.specs.Action.{Branch, Jump, Switch, Unreachable};
 ghost use Rattle.run_rules.specs.Frame.{followed};
-ghost use Rattle.run_stack.specs.Origins.{origin_of};
-ghost use Rattle.run_stack.specs.UnderWay.{changed, IsRunning};
+ghost use Rattle.run_actions.specs.Stack.Origins.{origin_of};
+ghost use Rattle.run_actions.specs.Stack.UnderWay.{changed, IsRunning};
 ghost use Rattle.run_actions.specs.Carried.{Acts, IsCarriedOut, IsUndefined};
 ghost use Rattle.run_actions.specs.Edges.{case_way, chosen_of, IsWay, way_of};
 ghost use Rattle.run_actions.specs.Operands.{IsThere};
 
 use crate::edge::{Edge, SwitchWay};
+use crate::stack::{Move, Origin, Stack};
 use ir_eval::Scalar;
 use ir_tables::UndefinedKind;
-use run_stack::{Move, Origin, Stack};
 
 // The newest frame goes that way.
 #[inline]

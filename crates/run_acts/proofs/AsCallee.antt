@@ -21,16 +21,16 @@ use Rattle.run_rules.specs.Action.{Action, Signature}
 use Rattle.run_rules.specs.Calls.{Callee, Code, begun, called, called_at, entered, same_signature}
 use Rattle.run_rules.specs.Look.{table}
 use Rattle.run_rules.specs.State.{Core, Due, Frame, fails}
-use Rattle.run_flat.specs.declared.action.CallParts.{CallParts}
-use Rattle.run_flat.specs.Flat.{signature_of}
-use Rattle.run_stack.specs.UnderWay.{UnderWay, newest}
+use Rattle.run_decode.specs.declared.flat.action.CallParts.{CallParts}
+use Rattle.run_decode.specs.Flat.Flat.{signature_of}
+use Rattle.run_actions.specs.Stack.UnderWay.{UnderWay, newest}
 use Rattle.run_actions.specs.Carried.{core_of}
-use Rattle.run_body.specs.Bodies.{Decoded}
-use Rattle.run_signatures.specs.Met.{known}
-use Rattle.run_signatures.specs.Numbers.{IsNumbered}
-use Rattle.run_signatures.proofs.Numbered.{numbered_still}
-use Rattle.run_program.specs.declared.program.FrameNeeds.{FrameNeeds}
-use Rattle.run_program.specs.Loaded.{HasHead, IsReady, Keeps, Loaded}
+use Rattle.run_decode.specs.Body.Bodies.{Decoded}
+use Rattle.run_decode.specs.Signatures.Met.{known}
+use Rattle.run_decode.specs.Signatures.Numbers.{IsNumbered}
+use Rattle.run_decode.proofs.OnSignatures.Numbered.{numbered_still}
+use Rattle.run_acts.specs.declared.program.program.FrameNeeds.{FrameNeeds}
+use Rattle.run_acts.specs.Program.Loaded.{HasHead, IsReady, Keeps, Loaded}
 use Rattle.typed_runs.specs.Actions.{AreArguments, Typing}
 use Rattle.typed_runs.specs.Kinds.{IsOf, kinds_of_all}
 use Rattle.typed_runs.specs.States.{IsTypedCallee}

@@ -20,33 +20,33 @@ use Rattle.run_rules.specs.NeverStuck.{is_stuck}
 use Rattle.run_rules.specs.State.{Due, Frame, on_top}
 use Rattle.run_rules.specs.Step.{instruction}
 use Rattle.run_rules.specs.Wants.{is_wide, may_want_memory, wants_memory}
-use Rattle.run_stack.specs.declared.origin.Origin.{Origin}
-use Rattle.run_stack.specs.Origins.{origin_of}
-use Rattle.run_stack.specs.UnderWay.{UnderWay, changed, IsRunning, newest, older, on_newest}
+use Rattle.run_actions.specs.declared.stack.origin.Origin.{Origin}
+use Rattle.run_actions.specs.Stack.Origins.{origin_of}
+use Rattle.run_actions.specs.Stack.UnderWay.{UnderWay, changed, IsRunning, newest, older, on_newest}
 use Rattle.run_actions.specs.Carried.{acted, core_of}
 use Rattle.run_actions.specs.Operands as operands
-use Rattle.run_actions.specs.Operands.{HasPlaces, IsThere, MayGoOn}
-use Rattle.run_flat.specs.declared.action.Action.{Action}
-use Rattle.run_flat.specs.declared.action.Action.TheVariants.{Call, Return, Passed}
-use Rattle.run_flat.specs.declared.action.Action.TheVariants as flat
-use Rattle.run_flat.specs.declared.action.CallParts.{CallParts}
-use Rattle.run_flat.specs.declared.leaf.LeafAt.{LeafAt}
-use Rattle.run_flat.specs.declared.leaf.Span.{Span}
-use Rattle.run_flat.specs.declared.pools.Pools.{Pools}
-use Rattle.run_flat.specs.Flat.{action_of, call_of, IsLeafIn, IsWithin, leaf_of, no_call, origins_of, signature_of}
-use Rattle.run_flat.specs.Spans.{IsSpanIn, spanned}
-use Rattle.run_flat.proofs.Growth.{longer_none}
-use Rattle.run_body.specs.Bodies.{AreNarrow, Decoded, look_of}
-use Rattle.run_program.specs.Loaded.{IsBody, IsReady, Keeps, Loaded}
-use Rattle.run_signatures.specs.Numbers.{IsNumbered}
-use Rattle.run_shapes.specs.Shapes.{shape_in}
+use Rattle.run_actions.specs.Operands.{HasPlaces, IsThere}
+use Rattle.run_decode.specs.declared.flat.action.Action.{Action}
+use Rattle.run_decode.specs.declared.flat.action.Action.TheVariants.{Call, Return, Passed}
+use Rattle.run_decode.specs.declared.flat.action.Action.TheVariants as flat
+use Rattle.run_decode.specs.declared.flat.action.CallParts.{CallParts}
+use Rattle.run_decode.specs.declared.flat.leaf.LeafAt.{LeafAt}
+use Rattle.run_decode.specs.declared.flat.leaf.Span.{Span}
+use Rattle.run_decode.specs.declared.flat.pools.Pools.{Pools}
+use Rattle.run_decode.specs.Flat.Flat.{action_of, call_of, IsLeafIn, IsWithin, leaf_of, no_call, origins_of, signature_of}
+use Rattle.run_decode.specs.Flat.Spans.{IsSpanIn, spanned}
+use Rattle.run_decode.proofs.OnFlat.Growth.{longer_none}
+use Rattle.run_decode.specs.Body.Bodies.{AreNarrow, Decoded, look_of}
+use Rattle.run_acts.specs.Program.Loaded.{IsBody, IsReady, Keeps, Loaded}
+use Rattle.run_decode.specs.Signatures.Numbers.{IsNumbered}
+use Rattle.run_names.specs.Shapes.Shapes.{shape_in}
 use Rattle.typed_runs.specs.Actions.{AreOrigins, IsOrigin, IsTypedAction, Typing}
 use Rattle.typed_runs.specs.Kinds.{IsOf, kinds_of, kinds_of_all}
 use Rattle.typed_runs.specs.States.{AreTypedFrames, IsTypedFrame}
 use Rattle.typed_runs.proofs.Leaves.{read_all_typed, same_lengths}
-use Rattle.run_classes.specs.May.{MayAct}
-use Rattle.run_classes.proofs.Placed.{at_within, equally_long, had, places_there}
-use Rattle.run_classes.proofs.Wide.{origins_there}
+use Rattle.run_acts.specs.Classes.May.{MayAct}
+use Rattle.run_acts.proofs.OnClasses.Placed.{at_within, equally_long, had, places_there}
+use Rattle.run_acts.proofs.OnClasses.Wide.{origins_there}
 use Rattle.run_acts.specs.Made.{AreReady, FitBelow, IsFunctionReady, MayCall, shapes_of, StaysReady}
 use Rattle.run_acts.specs.declared.next.Next.{Next}
 use Rattle.run_acts.specs.Said.{next_of}

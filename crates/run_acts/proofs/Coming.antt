@@ -9,9 +9,9 @@ use Rattle.ir_memory.specs.Memory.{Blocks}
 use Rattle.ir_tables.specs.declared.undefined_kind.UndefinedKind.{UndefinedKind}
 use Rattle.run_rules.specs.Action.{Action}
 use Rattle.run_rules.specs.Wants.{wants_memory}
-use Rattle.run_stack.specs.UnderWay.{UnderWay}
+use Rattle.run_actions.specs.Stack.UnderWay.{UnderWay}
 use Rattle.run_actions.specs.Carried.{Acts, core_of, IsCarriedOut}
-use Rattle.run_accesses.specs.Done.{Accesses}
+use Rattle.run_actions.specs.Accesses.Done.{Accesses}
 use Rattle.run_acts.specs.declared.next.Next.{Next}
 use Rattle.run_acts.specs.declared.next.Next.TheVariants.{Goes}
 use Rattle.run_acts.specs.Said.{next_of}

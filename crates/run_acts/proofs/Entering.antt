@@ -7,8 +7,8 @@ use Rattle.run_rules.specs.declared.end.End.TheVariants as ends
 use Rattle.run_rules.specs.Calls.{begun}
 use Rattle.run_rules.specs.State as rules
 use Rattle.run_rules.specs.State.{Due, on_top, weight, weight_limit, weights}
-use Rattle.run_stack.specs.UnderWay.{UnderWay}
-use Rattle.run_stack.proofs.Weights.{test_is}
+use Rattle.run_actions.specs.Stack.UnderWay.{UnderWay}
+use Rattle.run_actions.proofs.OnStack.Weights.{test_is}
 use Rattle.run_actions.specs.Carried.{core_of}
 use Rattle.run_acts.specs.declared.next.Next.{Next}
 use Rattle.run_acts.specs.declared.next.Next.TheVariants.{Goes, Gets, Stops}

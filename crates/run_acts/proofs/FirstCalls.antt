@@ -35,16 +35,16 @@ use Rattle.run_rules.specs.Host.{host}
 use Rattle.run_rules.specs.Look.{host_of, look, no_names, table}
 use Rattle.run_rules.specs.Resolve.{signature_in}
 use Rattle.run_rules.specs.State.{Constructor, Due, Frame, fails}
-use Rattle.run_stack.specs.UnderWay.{UnderWay}
+use Rattle.run_actions.specs.Stack.UnderWay.{UnderWay}
 use Rattle.run_actions.specs.Carried.{core_of}
-use Rattle.run_shapes.specs.Shapes.{shape_in}
-use Rattle.run_signatures.specs.Met as met
-use Rattle.run_signatures.specs.Met.{Met}
-use Rattle.run_types.specs.Wanted.{written_as}
-use Rattle.run_places.specs.Places.{IsFunctionOf}
-use Rattle.run_program.specs.declared.program.FrameNeeds.{FrameNeeds}
-use Rattle.run_program.specs.Loaded.{HasHead, IsHead, Keeps, Loaded}
-use Rattle.typed_look.specs.Typings.{IsTypedLook, typing_of}
+use Rattle.run_names.specs.Shapes.Shapes.{shape_in}
+use Rattle.run_decode.specs.Signatures.Met as met
+use Rattle.run_decode.specs.Signatures.Met.{Met}
+use Rattle.run_names.specs.Types.Wanted.{written_as}
+use Rattle.run_rules.specs.Places.Places.{IsFunctionOf}
+use Rattle.run_acts.specs.declared.program.program.FrameNeeds.{FrameNeeds}
+use Rattle.run_acts.specs.Program.Loaded.{HasHead, IsHead, Keeps, Loaded}
+use Rattle.typed_runs.specs.Look.Typings.{IsTypedLook, typing_of}
 use Rattle.typed_runs.specs.Kinds.{kinds_of_all}
 use Rattle.typed_runs.proofs.Hosts.{signature_exact}
 use Rattle.run_acts.specs.declared.due.DueCall.{DueCall}

@@ -13,9 +13,9 @@ use Rattle.module_arena.specs.declared.host.HostRow.{HostRow}
 use Rattle.module_arena.specs.HostRows.{host_types}
 use Rattle.type_table.specs.Shape.{Shape}
 use Rattle.type_table.specs.Types.{Types}
-use Rattle.run_host.specs.declared.answer.HostAnswer.{HostAnswer}
-use Rattle.run_host.specs.declared.answer.HostAnswer.TheVariants.{Gives, Reads, Exits, Fails, MemoryLimit}
-use Rattle.run_host.specs.Answers.{Writes, answer_of, leaves_of}
+use Rattle.run_names.specs.declared.host.answer.HostAnswer.{HostAnswer}
+use Rattle.run_names.specs.declared.host.answer.HostAnswer.TheVariants.{Gives, Reads, Exits, Fails, MemoryLimit}
+use Rattle.run_names.specs.Host.Answers.{Writes, answer_of, leaves_of}
 use Rattle.run_rules.specs.Action.{Signature}
 use Rattle.run_rules.specs.Answer as rules
 use Rattle.run_rules.specs.Calls.{answered, called, handed, same_signature}
@@ -25,19 +25,19 @@ use Rattle.run_rules.specs.Look.{host_of, no_names}
 use Rattle.run_rules.specs.Resolve.{signature_in}
 use Rattle.run_rules.specs.State as states
 use Rattle.run_rules.specs.State.{Core, Due, Frame, fails}
-use Rattle.run_shapes.specs.Shapes.{shape_in}
-use Rattle.run_stack.specs.UnderWay.{UnderWay, changed, newest, on_newest}
+use Rattle.run_names.specs.Shapes.Shapes.{shape_in}
+use Rattle.run_actions.specs.Stack.UnderWay.{UnderWay, changed, newest, on_newest}
 use Rattle.run_actions.specs.Carried.{core_of}
 use Rattle.run_actions.specs.Operands.{HasPlaces}
 use Rattle.run_actions.proofs.Wide.{fits_from}
-use Rattle.run_types.specs.Wanted.{leaf_of, written_as}
-use Rattle.run_flat.specs.declared.action.CallParts.{CallParts}
-use Rattle.run_flat.specs.declared.pools.Pools.{Pools}
-use Rattle.run_flat.specs.Flat.{signature_of}
-use Rattle.run_flat.specs.Spans.{IsSpanIn, spanned}
-use Rattle.run_signatures.specs.Numbers.{IsNumbered}
-use Rattle.run_body.specs.Bodies.{Decoded}
-use Rattle.run_program.specs.Loaded.{IsReady, Loaded}
+use Rattle.run_names.specs.Types.Wanted.{leaf_of, written_as}
+use Rattle.run_decode.specs.declared.flat.action.CallParts.{CallParts}
+use Rattle.run_decode.specs.declared.flat.pools.Pools.{Pools}
+use Rattle.run_decode.specs.Flat.Flat.{signature_of}
+use Rattle.run_decode.specs.Flat.Spans.{IsSpanIn, spanned}
+use Rattle.run_decode.specs.Signatures.Numbers.{IsNumbered}
+use Rattle.run_decode.specs.Body.Bodies.{Decoded}
+use Rattle.run_acts.specs.Program.Loaded.{IsReady, Loaded}
 use Rattle.typed_runs.specs.Actions.{AreArguments}
 use Rattle.typed_runs.specs.Kinds.{IsOf, kinds_of, kinds_of_all}
 use Rattle.typed_runs.specs.States.{IsRow, IsTypedMemory}

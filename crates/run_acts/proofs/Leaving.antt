@@ -9,7 +9,7 @@ use Rattle.ir_memory.specs.Given.{IsBlock, IsKnown}
 use Rattle.ir_memory.specs.Memory.{Blocks}
 use Rattle.run_rules.specs.Access.{released}
 use Rattle.run_rules.specs.State.{Frame}
-use Rattle.run_stack.specs.UnderWay.{UnderWay, changed, first_alloca, IsRunning, newest, older, on_newest, other_allocas, without_alloca}
+use Rattle.run_actions.specs.Stack.UnderWay.{UnderWay, changed, first_alloca, IsRunning, newest, older, on_newest, other_allocas, without_alloca}
 use Rattle.run_actions.proofs.Carried.{running_after}
 use Rattle.run_acts.specs.Said.{with_allocas}
 

@@ -9,3 +9,5 @@ pub mod Hosts
 pub mod Staying
 pub mod Coming
 pub mod AskedCalls
+pub mod OnClasses
+pub mod OnProgram

@@ -6,10 +6,10 @@ use Rattle.ir_eval.specs.declared.value.Scalar.{Scalar}
 use Rattle.run_rules.specs.Calls.{begun}
 use Rattle.run_rules.specs.Frame.{with_value}
 use Rattle.run_rules.specs.State.{Frame}
-use Rattle.run_stack.specs.UnderWay.{UnderWay, changed, older, on_newest}
-use Rattle.run_body.specs.Bodies.{Decoded}
-use Rattle.run_signatures.proofs.Numbered.{numbers_none, numbers_then}
-use Rattle.run_program.specs.Loaded.{IsReady, Keeps, Loaded}
+use Rattle.run_actions.specs.Stack.UnderWay.{UnderWay, changed, older, on_newest}
+use Rattle.run_decode.specs.Body.Bodies.{Decoded}
+use Rattle.run_decode.proofs.OnSignatures.Numbered.{numbers_none, numbers_then}
+use Rattle.run_acts.specs.Program.Loaded.{IsReady, Keeps, Loaded}
 use Rattle.run_acts.specs.Made.{AreReady, IsFunctionReady, StaysReady}
 
 -- ---- what is kept

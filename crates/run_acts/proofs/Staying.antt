@@ -17,17 +17,17 @@ use Rattle.run_rules.specs.Action as actions
 use Rattle.run_rules.specs.Calls.{Callee, Nothing}
 use Rattle.run_rules.specs.declared.end.End.TheVariants.{MemoryLimit}
 use Rattle.run_rules.specs.State.{Frame, Core, Next, Goes, Gets, Stops}
-use Rattle.run_stack.specs.UnderWay.{UnderWay, IsRunning, newest, older}
+use Rattle.run_actions.specs.Stack.UnderWay.{UnderWay, IsRunning, newest, older}
 use Rattle.run_actions.specs.Carried.{acted, Acts, core_of, IsCarriedOut}
-use Rattle.run_accesses.specs.Done.{Accesses, IsDone}
-use Rattle.run_flat.specs.declared.action.Action.{Action}
-use Rattle.run_flat.specs.declared.action.Action.TheVariants.{Compute, Compare, Convert, Select, Freeze, Gather, Load, Store, Allocate, Displace, Call, Return, Jump, Branch, Switch, Unreachable, Passed}
-use Rattle.run_flat.specs.declared.pools.Pools.{Pools}
-use Rattle.run_flat.specs.Flat.{action_of}
-use Rattle.run_classes.specs.Ends.{FramesStay}
-use Rattle.run_classes.specs.Groups.{is_value}
-use Rattle.run_classes.proofs.Going.{All-unmap}
-use Rattle.run_program.specs.Loaded.{Loaded}
+use Rattle.run_actions.specs.Accesses.Done.{Accesses, IsDone}
+use Rattle.run_decode.specs.declared.flat.action.Action.{Action}
+use Rattle.run_decode.specs.declared.flat.action.Action.TheVariants.{Compute, Compare, Convert, Select, Freeze, Gather, Load, Store, Allocate, Displace, Call, Return, Jump, Branch, Switch, Unreachable, Passed}
+use Rattle.run_decode.specs.declared.flat.pools.Pools.{Pools}
+use Rattle.run_decode.specs.Flat.Flat.{action_of}
+use Rattle.run_acts.specs.Classes.Ends.{FramesStay}
+use Rattle.run_acts.specs.Classes.Groups.{is_value}
+use Rattle.run_acts.proofs.OnClasses.Going.{All-unmap}
+use Rattle.run_acts.specs.Program.Loaded.{Loaded}
 use Rattle.run_acts.specs.declared.next.Next as code
 use Rattle.run_acts.specs.declared.next.Next.TheVariants as answer
 use Rattle.run_acts.specs.declared.next.Stop.TheVariants as stops

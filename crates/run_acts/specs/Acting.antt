@@ -14,13 +14,13 @@ use Rattle.run_rules.specs.Look.{look, table}
 use Rattle.run_rules.specs.State.{Due, Frame}
 use Rattle.run_rules.specs.Step.{instruction}
 use Rattle.run_rules.specs.Wants.{may_want_memory}
-use Rattle.run_stack.specs.UnderWay.{UnderWay, IsRunning, newest}
+use Rattle.run_actions.specs.Stack.UnderWay.{UnderWay, IsRunning, newest}
 use Rattle.run_actions.specs.Carried.{acted, core_of}
-use Rattle.run_flat.specs.declared.action.Action.{Action}
-use Rattle.run_flat.specs.Flat.{action_of, IsWithin}
-use Rattle.run_body.specs.Bodies.{Decoded}
-use Rattle.run_program.specs.Loaded.{Loaded, IsBody, IsReady}
-use Rattle.typed_look.specs.Typings.{IsTypedLook, typing_of}
+use Rattle.run_decode.specs.declared.flat.action.Action.{Action}
+use Rattle.run_decode.specs.Flat.Flat.{action_of, IsWithin}
+use Rattle.run_decode.specs.Body.Bodies.{Decoded}
+use Rattle.run_acts.specs.Program.Loaded.{Loaded, IsBody, IsReady}
+use Rattle.typed_runs.specs.Look.Typings.{IsTypedLook, typing_of}
 use Rattle.typed_runs.specs.Actions.{Typing}
 use Rattle.typed_runs.specs.States.{AreTypedFrames, IsTypedMemory}
 use Rattle.run_acts.specs.declared.next.Next.{Next}

@@ -3,7 +3,7 @@ use Rattle.std.specs.Prelude.{◌≡◌, ℕ, ⊤, List, [], ◌∷◌, Option, 
 use Rattle.ir_eval.specs.declared.value.Scalar.{Scalar}
 use Rattle.ir_eval.specs.declared.value.Scalar.TheVariants.{Int, Ptr}
 use Rattle.module_arena.specs.Module.{Module}
-use Rattle.run_places.specs.Places.{IsFunctionOf}
+use Rattle.run_rules.specs.Places.Places.{IsFunctionOf}
 use Rattle.run_rules.specs.Action.{Signature}
 use Rattle.run_rules.specs.Due.{plain_main, main_with_arguments}
 use Rattle.run_rules.specs.Look.{look, table}

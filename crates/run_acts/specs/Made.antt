@@ -11,19 +11,19 @@ use Rattle.run_rules.specs.Calls.{same_signature}
 use Rattle.run_rules.specs.Look.{no_names}
 use Rattle.run_rules.specs.Resolve.{signature_in}
 use Rattle.run_rules.specs.State.{Frame}
-use Rattle.run_shapes.specs.Shapes.{shape_in}
-use Rattle.run_stack.specs.UnderWay.{UnderWay, Fits, IsRunning, newest, older}
+use Rattle.run_names.specs.Shapes.Shapes.{shape_in}
+use Rattle.run_actions.specs.Stack.UnderWay.{UnderWay, Fits, IsRunning, newest, older}
 use Rattle.run_actions.specs.Operands.{HasPlaces}
-use Rattle.run_host.specs.Answers.{leaves_of}
-use Rattle.run_host.specs.declared.answer.HostAnswer.{HostAnswer}
-use Rattle.run_host.specs.declared.answer.HostAnswer.TheVariants.{Gives, Reads, Exits, Fails, MemoryLimit}
-use Rattle.run_flat.specs.declared.action.CallParts.{CallParts}
-use Rattle.run_flat.specs.declared.pools.Pools.{Pools}
-use Rattle.run_flat.specs.Flat.{signature_of}
-use Rattle.run_flat.specs.Spans.{spanned}
-use Rattle.run_signatures.specs.Numbers.{IsNumbered}
-use Rattle.run_body.specs.Bodies.{Decoded}
-use Rattle.run_program.specs.Loaded.{IsReady, Loaded}
+use Rattle.run_names.specs.Host.Answers.{leaves_of}
+use Rattle.run_names.specs.declared.host.answer.HostAnswer.{HostAnswer}
+use Rattle.run_names.specs.declared.host.answer.HostAnswer.TheVariants.{Gives, Reads, Exits, Fails, MemoryLimit}
+use Rattle.run_decode.specs.declared.flat.action.CallParts.{CallParts}
+use Rattle.run_decode.specs.declared.flat.pools.Pools.{Pools}
+use Rattle.run_decode.specs.Flat.Flat.{signature_of}
+use Rattle.run_decode.specs.Flat.Spans.{spanned}
+use Rattle.run_decode.specs.Signatures.Numbers.{IsNumbered}
+use Rattle.run_decode.specs.Body.Bodies.{Decoded}
+use Rattle.run_acts.specs.Program.Loaded.{IsReady, Loaded}
 use Rattle.typed_runs.specs.Actions.{AreArguments}
 use Rattle.typed_runs.specs.Kinds.{IsOf, kinds_of, kinds_of_all}
 

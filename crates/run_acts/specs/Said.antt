@@ -11,12 +11,12 @@ use Rattle.run_rules.specs.Calls.{begun, called_at, entered, returned}
 use Rattle.run_rules.specs.Look.{table}
 use Rattle.run_rules.specs.State as rules
 use Rattle.run_rules.specs.State.{Frame, Due, Core}
-use Rattle.run_stack.specs.UnderWay.{UnderWay, newest, older}
+use Rattle.run_actions.specs.Stack.UnderWay.{UnderWay, newest, older}
 use Rattle.run_actions.specs.Carried.{core_of}
-use Rattle.run_flat.specs.declared.action.CallParts.{CallParts}
-use Rattle.run_flat.specs.Flat.{signature_of}
-use Rattle.run_body.specs.Bodies.{Decoded}
-use Rattle.run_program.specs.Loaded.{IsReady, Loaded}
+use Rattle.run_decode.specs.declared.flat.action.CallParts.{CallParts}
+use Rattle.run_decode.specs.Flat.Flat.{signature_of}
+use Rattle.run_decode.specs.Body.Bodies.{Decoded}
+use Rattle.run_acts.specs.Program.Loaded.{IsReady, Loaded}
 use Rattle.run_acts.specs.declared.next.Next.{Next}
 use Rattle.run_acts.specs.declared.next.Next.TheVariants.{Goes, Gets, Stops}
 use Rattle.run_acts.specs.declared.next.Stop.{Stop}

@@ -1,24 +1,24 @@
 //! Calls and returns.
 ghost use Rattle.std.specs.Prelude.{◌≡◌, [], IfOk, List, OnErr, OnOk, true};
-ghost use Rattle.run_body.specs.Bodies.{Decoded};
+ghost use Rattle.run_decode.specs.Body.Bodies.{Decoded};
 ghost use Rattle.run_rules.specs.State.{Due};
 ghost use Rattle.run_rules.specs.Wants.{wants_memory};
-ghost use Rattle.run_flat.specs.Flat.{action_of};
-ghost use Rattle.run_flat.specs.declared.action.Action.TheVariants as flat;
-ghost use Rattle.run_program.specs.Loaded.{Keeps};
+ghost use Rattle.run_decode.specs.Flat.Flat.{action_of};
+ghost use Rattle.run_decode.specs.declared.flat.action.Action.TheVariants as flat;
+ghost use Rattle.run_acts.specs.Program.Loaded.{Keeps};
 ghost use Rattle.run_acts.specs.Made.{StaysReady};
 ghost use Rattle.run_acts.specs.Said.{IsLast};
 ghost use Rattle.run_acts.specs.Acting.{CameTo, MayActIn};
 
 use crate::address::{FrameCall, call_address};
+use crate::classes::origin;
 use crate::leave::return_value;
 use crate::next::Next;
+use crate::program::Program;
 use crate::room::{Buffers, front, read_leaves};
 use ir_memory::Memory;
-use run_classes::origin;
-use run_flat::{LeafAt, Span};
-use run_program::Program;
-use run_stack::Stack;
+use run_actions::stack::Stack;
+use run_decode::flat::{LeafAt, Span};
 use std::alloc::AllocError;
 
 /// A call by the newest frame, which then stands behind it. It is refused for want of memory alone.

@@ -2,15 +2,15 @@
 ghost use Rattle.std.specs.Prelude.{◌≡◌, ◌≤◌, IfOk, OnErr, OnOk, length};
 ghost use Rattle.run_names.specs.declared.callee.CalleeRef.TheVariants as callees;
 ghost use Rattle.run_names.specs.Told.{HasCode};
-ghost use Rattle.run_program.specs.Loaded.{Keeps};
+ghost use Rattle.run_acts.specs.Program.Loaded.{Keeps};
 ghost use Rattle.run_acts.specs.Made.{StaysReady};
 ghost use Rattle.run_acts.specs.Said.{IsEntered};
 
 use crate::next::{Next, Stop};
+use crate::program::Program;
 use ir_eval::Scalar;
 use module_arena::FunctionId;
-use run_program::Program;
-use run_stack::Stack;
+use run_actions::stack::Stack;
 use std::alloc::AllocError;
 
 /// Enters a function that has a body and so many leaves: its frame begins, unless all frames would weigh too much then.

@@ -1,28 +1,28 @@
 //! Calls of host functions.
 ghost use Rattle.std.specs.Prelude.{◌≡◌, ◌<◌, ℕ, [], All, IfOk, List, OnOk, length, map};
-ghost use Rattle.host_calls.specs.Made.{EndsOrReads};
+ghost use Rattle.run_actions.specs.Hosts.Made.{EndsOrReads};
 ghost use Rattle.ir_memory.specs.Memory.{Blocks, HasFreeAddresses};
 ghost use Rattle.run_actions.specs.Carried.{core_of};
-ghost use Rattle.run_host.specs.Answers.{answer_of, leaves_of};
-ghost use Rattle.run_program.specs.Loaded.{Loaded};
+ghost use Rattle.run_names.specs.Host.Answers.{answer_of, leaves_of};
+ghost use Rattle.run_acts.specs.Program.Loaded.{Loaded};
 ghost use Rattle.run_rules.specs.Calls.{answered};
 ghost use Rattle.run_rules.specs.Frame.{with_value};
 ghost use Rattle.run_rules.specs.Host.{host, outcome_leaves};
 ghost use Rattle.run_rules.specs.State.{Due};
-ghost use Rattle.run_shapes.specs.Shapes.{shape_in};
-ghost use Rattle.run_stack.specs.UnderWay.{changed, Fits, IsRunning, newest};
+ghost use Rattle.run_names.specs.Shapes.Shapes.{shape_in};
+ghost use Rattle.run_actions.specs.Stack.UnderWay.{changed, Fits, IsRunning, newest};
 ghost use Rattle.typed_runs.specs.States.{IsRow, IsTypedMemory};
 ghost use Rattle.run_acts.specs.Made.{MayCallHost, StaysReady, TakesResult};
 ghost use Rattle.run_acts.specs.Said.{next_of};
 
 use crate::next::{Next, Stop, fails};
-use host_calls::ArgumentKinds;
 use ir_eval::Scalar;
 use ir_intrinsics::Outcome;
 use ir_memory::Memory;
 use module_arena::HostRow;
-use run_host::HostAnswer;
-use run_stack::Stack;
+use run_actions::hosts::ArgumentKinds;
+use run_actions::stack::Stack;
+use run_names::host::HostAnswer;
 use std::alloc::{AllocError, Global};
 use type_table::{TypeId, TypeTable};
 
@@ -101,6 +101,13 @@ pub(crate) fn call_host(
     ensures ready { OnOk result ((p : Loaded) → StaysReady p stack.old p stack.new) }
 {
     let kinds = ArgumentKinds::new(types, call.shapes);
-    let answer = host_calls::call(alloc, call.row, &kinds, call.arguments, memory, written)?;
+    let answer = run_actions::hosts::call(
+        alloc,
+        call.row,
+        &kinds,
+        call.arguments,
+        memory,
+        written,
+    )?;
     Ok(take_answer(stack, call.to, answer))
 }

@@ -3,21 +3,21 @@ ghost use Rattle.std.specs.Prelude.{◌≡◌, ℕ, IfOk, OnErr, OnOk, Some, len
 ghost use Rattle.ir_memory.specs.Memory.{Blocks, HasFreeAddresses};
 ghost use Rattle.module_arena.specs.Lists.{Lists};
 ghost use Rattle.run_rules.specs.Wants.{wants_memory};
-ghost use Rattle.run_flat.specs.Flat.{action_of};
-ghost use Rattle.run_classes.specs.Groups.{is_value};
-ghost use Rattle.run_classes.specs.May.{MayAct};
+ghost use Rattle.run_decode.specs.Flat.Flat.{action_of};
+ghost use Rattle.run_acts.specs.Classes.Groups.{is_value};
+ghost use Rattle.run_acts.specs.Classes.May.{MayAct};
 ghost use Rattle.run_acts.specs.Acting.{AnswersMemory, AnswersWith, ComesInside, FunctionsStay};
 
+use crate::classes::{
+    act_on_address, act_on_alloca, act_on_binary, act_on_branch, act_on_cast, act_on_comparison,
+    act_on_jump, act_on_load, act_on_store, act_on_switch, act_on_unreachable, act_on_values,
+};
 use crate::next::{Next, Stop, fails};
 use ir_eval::Scalar;
 use ir_memory::{Memory, MemoryFault};
 use ir_tables::UndefinedKind;
-use run_classes::{
-    act_on_address, act_on_alloca, act_on_binary, act_on_branch, act_on_cast, act_on_comparison,
-    act_on_jump, act_on_load, act_on_store, act_on_switch, act_on_unreachable, act_on_values,
-};
-use run_flat::{Action, Pools};
-use run_stack::Stack;
+use run_actions::stack::Stack;
+use run_decode::flat::{Action, Pools};
 use std::alloc::AllocError;
 
 /// What an instruction comes to that goes on or is undefined. It is made where it stands: a call that fills it would have it lie in memory.

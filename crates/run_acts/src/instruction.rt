@@ -2,7 +2,7 @@
 ghost use Rattle.std.specs.Prelude.{◌≡◌, [], IfOk, List, OnErr, OnOk};
 ghost use Rattle.ir_memory.specs.Memory.{Blocks};
 ghost use Rattle.run_rules.specs.State.{Due};
-ghost use Rattle.run_program.specs.Loaded.{Keeps, Loaded};
+ghost use Rattle.run_acts.specs.Program.Loaded.{Keeps, Loaded};
 ghost use Rattle.run_acts.specs.Made.{StaysReady};
 ghost use Rattle.run_acts.specs.Said.{IsLast};
 ghost use Rattle.run_acts.specs.Acting.{ActsFor, ActsInside, FunctionsStay, IsOuter, MayActBy, MayActHere, WantsHere, is_outer_here};
@@ -10,13 +10,13 @@ ghost use Rattle.run_acts.specs.Acting.{ActsFor, ActsInside, FunctionsStay, IsOu
 use crate::calls::{act_on_call, act_on_return};
 use crate::inner::act_within;
 use crate::next::Next;
+use crate::program::Program;
 use crate::room::Buffers;
 use ir_eval::Scalar;
 use ir_memory::Memory;
-use run_body::ActionBody;
-use run_flat::Action;
-use run_program::Program;
-use run_stack::Stack;
+use run_actions::stack::Stack;
+use run_decode::body::ActionBody;
+use run_decode::flat::Action;
 use std::alloc::AllocError;
 
 /// Whether the instruction of the newest frame calls or returns.

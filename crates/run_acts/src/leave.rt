@@ -3,12 +3,12 @@ ghost use Rattle.std.specs.Prelude.{◌≡◌, [], All, IfOk, List, OnErr, OnOk,
 ghost use Rattle.ir_memory.specs.Answer.{Keeps};
 ghost use Rattle.ir_memory.specs.Given.{IsKnown};
 ghost use Rattle.run_actions.specs.Operands.{IsThere, leaf_of};
-ghost use Rattle.run_program.specs.Loaded.{Loaded};
+ghost use Rattle.run_acts.specs.Program.Loaded.{Loaded};
 ghost use Rattle.run_rules.specs.Access.{released};
 ghost use Rattle.run_rules.specs.Calls.{exited};
 ghost use Rattle.run_rules.specs.State.{Due, Stops};
 ghost use Rattle.run_rules.specs.Wants.{is_wide};
-ghost use Rattle.run_stack.specs.UnderWay.{changed, IsRunning, newest};
+ghost use Rattle.run_actions.specs.Stack.UnderWay.{changed, IsRunning, newest};
 ghost use Rattle.run_acts.specs.Made.{FitBelow, StaysReady};
 ghost use Rattle.run_acts.specs.Said.{end_of, IsLast, IsReturned, with_allocas};
 
@@ -16,8 +16,8 @@ use crate::next::{Next, Stop};
 use ir_eval::Scalar;
 use ir_memory::Memory;
 use ir_tables::UndefinedKind;
-use run_stack::{Origin, Stack};
-use run_values::release;
+use run_actions::stack::{Origin, Stack};
+use run_names::values::release;
 use std::alloc::AllocError;
 
 /// Ends the blocks of the newest frame's allocas, the last one first.

@@ -3,7 +3,7 @@ ghost use Rattle.std.specs.Prelude.{◌≡◌, ◌≤◌, All, OnOk, length, map
 ghost use Rattle.run_actions.specs.Operands.{IsThere, leaf_of};
 
 use ir_eval::Scalar;
-use run_stack::{Origin, Stack};
+use run_actions::stack::{Origin, Stack};
 use std::alloc::AllocError;
 
 /// Room that instructions use again and again: for the leaves of a value, and for the bytes that one writes.

@@ -17,26 +17,26 @@ use Rattle.run_rules.specs.Action as actions
 use Rattle.run_rules.specs.Constant.{shape_of}
 use Rattle.run_rules.specs.Resolve.{signature_in}
 use Rattle.run_rules.specs.Scope.{operand_in, scalar_of}
-use Rattle.run_shapes.specs.Shapes.{shape_in}
-use Rattle.run_constants.specs.Sound.{names_of}
-use Rattle.run_flat.specs.declared.action.Action.TheVariants as flat
-use Rattle.run_flat.specs.declared.action.CallParts.{CallParts}
-use Rattle.run_flat.specs.declared.leaf.LeafAt.{LeafAt}
-use Rattle.run_flat.specs.declared.leaf.Span.{Span}
-use Rattle.run_flat.specs.declared.pools.Pools.{Pools}
-use Rattle.run_flat.specs.Flat.{call_of, no_call, signature_of}
-use Rattle.run_flat.specs.Grown.{Adds, AreLeaves, Grows, IsLeaf}
-use Rattle.run_flat.specs.Spans.{IsBetween, IsSpanIn, spanned}
-use Rattle.run_flat.proofs.Growth.{adds_then, calls_grow, grows_then, leaf_stays, span_stays, spanned_same, types_add}
-use Rattle.run_flat.proofs.Spanned.{between_in, spanned_more}
-use Rattle.run_scopes.specs.Scopes.{Framed, operand_of, scope_in, to_of, value_of}
-use Rattle.run_scopes.proofs.Shaped.{shapes_same}
-use Rattle.run_signatures.specs.Met.{Met, known, written_as}
-use Rattle.run_signatures.specs.Numbers.{AreNumbered, IsNumbered, Numbers}
-use Rattle.run_signatures.proofs.Numbered.{call_numbered, calls_numbered, numbers_none}
-use Rattle.run_operands.specs.Suits.{HasCall}
-use Rattle.run_operands.proofs.Stands.{pushed_at}
-use Rattle.run_operands.proofs.Ended.{mapped_twice}
+use Rattle.run_names.specs.Shapes.Shapes.{shape_in}
+use Rattle.run_initial.specs.Constants.Sound.{names_of}
+use Rattle.run_decode.specs.declared.flat.action.Action.TheVariants as flat
+use Rattle.run_decode.specs.declared.flat.action.CallParts.{CallParts}
+use Rattle.run_decode.specs.declared.flat.leaf.LeafAt.{LeafAt}
+use Rattle.run_decode.specs.declared.flat.leaf.Span.{Span}
+use Rattle.run_decode.specs.declared.flat.pools.Pools.{Pools}
+use Rattle.run_decode.specs.Flat.Flat.{call_of, no_call, signature_of}
+use Rattle.run_decode.specs.Flat.Grown.{Adds, AreLeaves, Grows, IsLeaf}
+use Rattle.run_decode.specs.Flat.Spans.{IsBetween, IsSpanIn, spanned}
+use Rattle.run_decode.proofs.OnFlat.Growth.{adds_then, calls_grow, grows_then, leaf_stays, span_stays, spanned_same, types_add}
+use Rattle.run_decode.proofs.OnFlat.Spanned.{between_in, spanned_more}
+use Rattle.run_decode.specs.Scopes.Scopes.{Framed, operand_of, scope_in, to_of, value_of}
+use Rattle.run_decode.proofs.OnScopes.Shaped.{shapes_same}
+use Rattle.run_decode.specs.Signatures.Met.{Met, known, written_as}
+use Rattle.run_decode.specs.Signatures.Numbers.{AreNumbered, IsNumbered, Numbers}
+use Rattle.run_decode.proofs.OnSignatures.Numbered.{call_numbered, calls_numbered, numbers_none}
+use Rattle.run_decode.specs.Operands.Suits.{HasCall}
+use Rattle.run_decode.proofs.OnOperands.Stands.{pushed_at}
+use Rattle.run_decode.proofs.OnOperands.Ended.{mapped_twice}
 use Rattle.run_decode.specs.Calls.{IsCallOf}
 use Rattle.run_decode.specs.Operations.{Meant}
 

@@ -19,17 +19,17 @@ use Rattle.run_rules.specs.Displace as displace
 use Rattle.run_rules.specs.Leaves.{Slot, is_pointer, slots, width}
 use Rattle.run_rules.specs.Resolve.{extracted, index_in, inserted}
 use Rattle.run_rules.specs.Scope.{operand_in, scalar_in, scalar_of}
-use Rattle.run_shapes.specs.Shapes.{shape_in}
-use Rattle.run_constants.specs.Sound.{names_of}
-use Rattle.run_flat.specs.declared.action.Action.TheVariants.{Compute, Compare, Convert, Select, Freeze, Gather, Load, Store, Allocate, Displace}
-use Rattle.run_flat.specs.declared.leaf.LeafAt.{LeafAt}
-use Rattle.run_flat.specs.declared.leaf.Span.{Span}
-use Rattle.run_flat.specs.declared.pools.Pools.{Pools}
-use Rattle.run_flat.specs.Grown.{Adds, AreArms, AreLeaves, AreParts, AreSlots, AreTerms, IsLeaf}
-use Rattle.run_flat.proofs.Growth.{leaf_stays, leaves_stay, slots_stay}
-use Rattle.run_scopes.specs.Scopes.{Framed, operand_of, scope_in, to_of, value_of}
-use Rattle.run_scopes.proofs.Shaped.{shapes_same}
-use Rattle.run_operands.proofs.Ended.{mapped_twice}
+use Rattle.run_names.specs.Shapes.Shapes.{shape_in}
+use Rattle.run_initial.specs.Constants.Sound.{names_of}
+use Rattle.run_decode.specs.declared.flat.action.Action.TheVariants.{Compute, Compare, Convert, Select, Freeze, Gather, Load, Store, Allocate, Displace}
+use Rattle.run_decode.specs.declared.flat.leaf.LeafAt.{LeafAt}
+use Rattle.run_decode.specs.declared.flat.leaf.Span.{Span}
+use Rattle.run_decode.specs.declared.flat.pools.Pools.{Pools}
+use Rattle.run_decode.specs.Flat.Grown.{Adds, AreArms, AreLeaves, AreParts, AreSlots, AreTerms, IsLeaf}
+use Rattle.run_decode.proofs.OnFlat.Growth.{leaf_stays, leaves_stay, slots_stay}
+use Rattle.run_decode.specs.Scopes.Scopes.{Framed, operand_of, scope_in, to_of, value_of}
+use Rattle.run_decode.proofs.OnScopes.Shaped.{shapes_same}
+use Rattle.run_decode.proofs.OnOperands.Ended.{mapped_twice}
 use Rattle.run_decode.specs.Operations.{Meant, count_in}
 
 module _ (s : Framed) where

@@ -24,22 +24,22 @@ use Rattle.run_rules.specs.Scope.{scope_of}
 use Rattle.run_names.proofs.Arena.{function_at_is}
 use Rattle.run_names.specs.Standings.{has_code}
 use Rattle.run_names.specs.Told.{alone}
-use Rattle.run_flat.specs.declared.action.Action.{Action}
-use Rattle.run_flat.specs.declared.leaf.Span.{Span}
-use Rattle.run_flat.specs.declared.pools.Pools.{Pools}
-use Rattle.run_flat.specs.Flat.{IsWithin}
-use Rattle.run_flat.specs.Grown.{Grows, Stands}
-use Rattle.run_flat.specs.Spans.{IsBetween, IsLonger, IsSpanIn, spanned}
-use Rattle.run_flat.proofs.Growth.{span_stays, spanned_same, stands_still, within_stays}
-use Rattle.run_flat.proofs.Spanned.{between_in, spanned_more}
-use Rattle.run_body.specs.Bodies.{Decoded, look_of}
-use Rattle.run_body.proofs.Looked.{body_looked}
-use Rattle.run_scopes.specs.Scopes.{Framed, block_of, instruction_of, label_of, labels_in, scope_in}
-use Rattle.run_scopes.proofs.Viewed.{blocks_all}
-use Rattle.run_operands.specs.Endings.{ending_from}
-use Rattle.run_operands.specs.Suits.{AllSuit, BlockSuits}
-use Rattle.run_operands.proofs.Ended.{mapped_twice}
-use Rattle.run_suits.specs.Laws.{FunctionsSuit}
+use Rattle.run_decode.specs.declared.flat.action.Action.{Action}
+use Rattle.run_decode.specs.declared.flat.leaf.Span.{Span}
+use Rattle.run_decode.specs.declared.flat.pools.Pools.{Pools}
+use Rattle.run_decode.specs.Flat.Flat.{IsWithin}
+use Rattle.run_decode.specs.Flat.Grown.{Grows, Stands}
+use Rattle.run_decode.specs.Flat.Spans.{IsBetween, IsLonger, IsSpanIn, spanned}
+use Rattle.run_decode.proofs.OnFlat.Growth.{span_stays, spanned_same, stands_still, within_stays}
+use Rattle.run_decode.proofs.OnFlat.Spanned.{between_in, spanned_more}
+use Rattle.run_decode.specs.Body.Bodies.{Decoded, look_of}
+use Rattle.run_decode.proofs.OnBody.Looked.{body_looked}
+use Rattle.run_decode.specs.Scopes.Scopes.{Framed, block_of, instruction_of, label_of, labels_in, scope_in}
+use Rattle.run_decode.proofs.OnScopes.Viewed.{blocks_all}
+use Rattle.run_decode.specs.Operands.Endings.{ending_from}
+use Rattle.run_decode.specs.Operands.Suits.{AllSuit, BlockSuits}
+use Rattle.run_decode.proofs.OnOperands.Ended.{mapped_twice}
+use Rattle.run_decode.specs.Suits.Laws.{FunctionsSuit}
 use Rattle.run_decode.specs.Operations.{action_from}
 use Rattle.run_decode.specs.Rows.{AddsActions, AreRows, IsRow, actions_in}
 

@@ -2,12 +2,12 @@
 use Rattle.std.specs.Prelude.{◌≡◌, ℕ, map, flat_map}
 use Rattle.module_arena.specs.declared.instruction.Call.{Call}
 use Rattle.run_rules.specs.Scope.{operand_in}
-use Rattle.run_shapes.specs.Shapes.{shape_in}
-use Rattle.run_flat.specs.declared.pools.Pools.{Pools}
-use Rattle.run_flat.specs.Flat.{IsCallIn, origins_of, signature_of}
-use Rattle.run_flat.specs.Spans.{spanned}
-use Rattle.run_scopes.specs.Scopes.{Framed, operand_of, scope_in}
-use Rattle.run_signatures.specs.Met.{written_as}
+use Rattle.run_names.specs.Shapes.Shapes.{shape_in}
+use Rattle.run_decode.specs.declared.flat.pools.Pools.{Pools}
+use Rattle.run_decode.specs.Flat.Flat.{IsCallIn, origins_of, signature_of}
+use Rattle.run_decode.specs.Flat.Spans.{spanned}
+use Rattle.run_decode.specs.Scopes.Scopes.{Framed, operand_of, scope_in}
+use Rattle.run_decode.specs.Signatures.Met.{written_as}
 
 -- the call at a place has the function type, the types of arguments and the leaves of arguments of this one
 pub record IsCallOf (s : Framed) (p : Pools) (place : ℕ) (c : Call) : Type 0 where

@@ -1,3 +1,9 @@
 pub mod Operations
 pub mod Calls
 pub mod Rows
+pub mod Scopes
+pub mod Flat
+pub mod Signatures
+pub mod Body
+pub mod Operands
+pub mod Suits

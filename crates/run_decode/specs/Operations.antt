@@ -8,10 +8,10 @@ use Rattle.module_arena.specs.declared.instruction.Operand.{Operand}
 use Rattle.run_rules.specs.Action as actions
 use Rattle.run_rules.specs.Resolve.{instruction_in}
 use Rattle.run_rules.specs.Scope.{scalar_in}
-use Rattle.run_flat.specs.declared.action.Action.{Action}
-use Rattle.run_flat.specs.declared.pools.Pools.{Pools}
-use Rattle.run_flat.specs.Grown.{Stands}
-use Rattle.run_scopes.specs.Scopes.{Framed, instruction_of, operand_of, scope_in}
+use Rattle.run_decode.specs.declared.flat.action.Action.{Action}
+use Rattle.run_decode.specs.declared.flat.pools.Pools.{Pools}
+use Rattle.run_decode.specs.Flat.Grown.{Stands}
+use Rattle.run_decode.specs.Scopes.Scopes.{Framed, instruction_of, operand_of, scope_in}
 
 -- an instruction is a call
 abbrev pub is_call : Inst → Bool

@@ -5,13 +5,13 @@ use Rattle.module_arena.specs.declared.entry.Block.{Block}
 use Rattle.module_arena.specs.Lists.{function_blocks}
 use Rattle.run_rules.specs.Action as actions
 use Rattle.run_rules.specs.Resolve.{ending_in, instruction_in}
-use Rattle.run_flat.specs.declared.action.Action.{Action}
-use Rattle.run_flat.specs.declared.leaf.Span.{Span}
-use Rattle.run_flat.specs.declared.pools.Pools.{Pools}
-use Rattle.run_flat.specs.Flat.{IsWithin}
-use Rattle.run_flat.specs.Grown.{Stands}
-use Rattle.run_flat.specs.Spans.{IsSpanIn, spanned}
-use Rattle.run_scopes.specs.Scopes.{Framed, block_of, scope_in}
+use Rattle.run_decode.specs.declared.flat.action.Action.{Action}
+use Rattle.run_decode.specs.declared.flat.leaf.Span.{Span}
+use Rattle.run_decode.specs.declared.flat.pools.Pools.{Pools}
+use Rattle.run_decode.specs.Flat.Flat.{IsWithin}
+use Rattle.run_decode.specs.Flat.Grown.{Stands}
+use Rattle.run_decode.specs.Flat.Spans.{IsSpanIn, spanned}
+use Rattle.run_decode.specs.Scopes.Scopes.{Framed, block_of, scope_in}
 
 -- the actions of a block: those of its instructions, and of its end
 abbrev pub actions_in : Framed → Block → List actions.Action

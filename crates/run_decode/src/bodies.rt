@@ -6,25 +6,25 @@ ghost use Rattle.module_arena.specs.View.{module_of};
 ghost use Rattle.run_names.specs.declared.callee.CalleeRef.TheVariants as callees;
 ghost use Rattle.run_names.specs.Told.{HasCode, alone};
 ghost use Rattle.run_rules.specs.Look.{look};
-ghost use Rattle.run_flat.specs.Flat.{IsWithin};
-ghost use Rattle.run_flat.specs.Grown.{Grows};
-ghost use Rattle.run_flat.specs.Spans.{IsLonger};
-ghost use Rattle.run_body.specs.Bodies.{AreNarrow, look_of};
-ghost use Rattle.run_signatures.specs.Numbers.{AreNumbered, Numbers};
-ghost use Rattle.run_scopes.specs.Scopes.{HasBlock};
-ghost use Rattle.run_operands.specs.Suits.{AllSuit, Suits};
+ghost use Rattle.run_decode.specs.Flat.Flat.{IsWithin};
+ghost use Rattle.run_decode.specs.Flat.Grown.{Grows};
+ghost use Rattle.run_decode.specs.Flat.Spans.{IsLonger};
+ghost use Rattle.run_decode.specs.Body.Bodies.{AreNarrow, look_of};
+ghost use Rattle.run_decode.specs.Signatures.Numbers.{AreNumbered, Numbers};
+ghost use Rattle.run_decode.specs.Scopes.Scopes.{HasBlock};
+ghost use Rattle.run_decode.specs.Operands.Suits.{AllSuit, Suits};
 ghost use Rattle.run_decode.specs.Operations.{action_from};
 ghost use Rattle.run_decode.specs.Rows.{AddsActions, AreRows, IsRow};
 
+use crate::body::ActionBody;
+use crate::flat::{Action, Pool, Pools, Span, numbered};
 use crate::instructions::put_instruction;
+use crate::operands::put_ending;
+use crate::scopes::FunctionScope;
+use crate::signatures::Signatures;
+use crate::suits::functions_of_a_checked_module_suit;
 use module_arena::{BlockId, FunctionId, Inst};
-use run_body::ActionBody;
-use run_flat::{Action, Pool, Pools, Span, numbered};
 use run_names::Names;
-use run_operands::put_ending;
-use run_scopes::FunctionScope;
-use run_signatures::Signatures;
-use run_suits::functions_of_a_checked_module_suit;
 use std::alloc::{AllocError, Global};
 
 /// Puts the actions of instructions behind those that are there, in order.

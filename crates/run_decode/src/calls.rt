@@ -1,18 +1,18 @@
 //! Calls as actions (LangRef, "call Instruction").
 ghost use Rattle.std.specs.Prelude.{◌≡◌, ◌++◌, IfOk, OnOk, map};
 ghost use Rattle.module_arena.specs.declared.instruction.Inst.TheVariants as inst;
-ghost use Rattle.run_flat.specs.Grown.{Adds, Grows};
-ghost use Rattle.run_flat.specs.Spans.{IsSpanIn, spanned};
-ghost use Rattle.run_signatures.specs.Numbers.{AreNumbered, Numbers};
-ghost use Rattle.run_operands.specs.Suits.{HasCall};
+ghost use Rattle.run_decode.specs.Flat.Grown.{Adds, Grows};
+ghost use Rattle.run_decode.specs.Flat.Spans.{IsSpanIn, spanned};
+ghost use Rattle.run_decode.specs.Signatures.Numbers.{AreNumbered, Numbers};
+ghost use Rattle.run_decode.specs.Operands.Suits.{HasCall};
 ghost use Rattle.run_decode.specs.Calls.{IsCallOf};
 ghost use Rattle.run_decode.specs.Operations.{Meant};
 
+use crate::flat::{Action, CallParts, Pools, Span};
+use crate::operands::{put_callee, put_operands};
+use crate::scopes::FunctionScope;
+use crate::signatures::Signatures;
 use module_arena::{Call, Operand};
-use run_flat::{Action, CallParts, Pools, Span};
-use run_operands::{put_callee, put_operands};
-use run_scopes::FunctionScope;
-use run_signatures::Signatures;
 use std::alloc::AllocError;
 
 /// Puts the types of operands among the types, in order.

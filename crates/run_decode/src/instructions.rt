@@ -1,19 +1,19 @@
 //! Instructions as actions.
 ghost use Rattle.std.specs.Prelude.{◌≡◌, IfOk, OnOk, false};
-ghost use Rattle.run_flat.specs.Grown.{Adds, Grows};
-ghost use Rattle.run_signatures.specs.Numbers.{AreNumbered, Numbers};
-ghost use Rattle.run_operands.specs.Suits.{Suits};
+ghost use Rattle.run_decode.specs.Flat.Grown.{Adds, Grows};
+ghost use Rattle.run_decode.specs.Signatures.Numbers.{AreNumbered, Numbers};
+ghost use Rattle.run_decode.specs.Operands.Suits.{Suits};
 ghost use Rattle.run_decode.specs.Operations.{Meant, is_call};
 
 use crate::calls::put_call;
+use crate::flat::{Action, Pools};
 use crate::memory::{put_alloca, put_displace, put_load, put_store};
 use crate::operations::{
     put_binary, put_compare, put_convert, put_extract, put_freeze, put_insert, put_select,
 };
+use crate::scopes::FunctionScope;
+use crate::signatures::Signatures;
 use module_arena::Inst;
-use run_flat::{Action, Pools};
-use run_scopes::FunctionScope;
-use run_signatures::Signatures;
 use std::alloc::AllocError;
 
 /// The action of an instruction that is no call.

@@ -2,19 +2,19 @@
 ghost use Rattle.std.specs.Prelude.{◌≡◌, ℕ, IfOk, IfSome, OnOk, unwrap_or};
 ghost use Rattle.module_arena.specs.declared.instruction.Inst.TheVariants as inst;
 ghost use Rattle.type_table.specs.Layout as layouts;
-ghost use Rattle.run_shapes.specs.Shapes.{shape_in};
-ghost use Rattle.run_flat.specs.Grown.{Adds, IsLeaf};
-ghost use Rattle.run_scopes.specs.Scopes.{HasScalar};
-ghost use Rattle.run_operands.specs.Suits.{HasLoad, HasSteps, HasStore, IsResult, Lies};
+ghost use Rattle.run_names.specs.Shapes.Shapes.{shape_in};
+ghost use Rattle.run_decode.specs.Flat.Grown.{Adds, IsLeaf};
+ghost use Rattle.run_decode.specs.Scopes.Scopes.{HasScalar};
+ghost use Rattle.run_decode.specs.Operands.Suits.{HasLoad, HasSteps, HasStore, IsResult, Lies};
 ghost use Rattle.run_decode.specs.Operations.{Meant, count_in};
 
+use crate::flat::{Action, LeafAt, Pools};
+use crate::operands::{put_known, put_operand, put_scalar, put_slots, put_steps};
+use crate::scopes::FunctionScope;
 use ir_eval::Scalar;
 use ir_tables::{Flag, Flags};
 use module_arena::{Operand, ValueId};
-use run_flat::{Action, LeafAt, Pools};
-use run_operands::{put_known, put_operand, put_scalar, put_slots, put_steps};
-use run_scopes::FunctionScope;
-use run_shapes::layout_of;
+use run_names::shapes::layout_of;
 use std::alloc::AllocError;
 use type_table::TypeId;
 

@@ -1,19 +1,19 @@
 //! Instructions on values as actions, one function a phrase (LangRef, "Binary Operations", "Conversion Operations", "Other Operations").
 ghost use Rattle.std.specs.Prelude.{IfOk, OnOk};
 ghost use Rattle.module_arena.specs.declared.instruction.Inst.TheVariants as inst;
-ghost use Rattle.run_flat.specs.Grown.{Adds, IsLeaf};
-ghost use Rattle.run_scopes.specs.Scopes.{HasScalarAt, scope_in, value_of};
+ghost use Rattle.run_decode.specs.Flat.Grown.{Adds, IsLeaf};
+ghost use Rattle.run_decode.specs.Scopes.Scopes.{HasScalarAt, scope_in, value_of};
 ghost use Rattle.run_rules.specs.Scope.{scalar_of};
 ghost use Rattle.type_table.specs.Types.{tree};
-ghost use Rattle.run_operands.specs.Suits.{HasCast, HasChoice, HasExtraction, HasInsertion, HasPair, HasStored, IsResult};
+ghost use Rattle.run_decode.specs.Operands.Suits.{HasCast, HasChoice, HasExtraction, HasInsertion, HasPair, HasStored, IsResult};
 ghost use Rattle.run_decode.specs.Operations.{Meant};
 
+use crate::flat::{Action, LeafAt, Pools};
+use crate::operands::{put_arms, put_extracted, put_inserted, put_parts, put_scalar};
+use crate::scopes::FunctionScope;
 use ir_tables::{Flag, Flags, Opcode, Predicate};
 use module_arena::{Choice, Insertion, Operand, Value, ValueId};
-use run_flat::{Action, LeafAt, Pools};
-use run_operands::{put_arms, put_extracted, put_inserted, put_parts, put_scalar};
-use run_scopes::FunctionScope;
-use run_shapes::width;
+use run_names::shapes::width;
 use std::alloc::AllocError;
 use type_table::TypeId;
 

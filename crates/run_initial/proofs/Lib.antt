@@ -1,7 +1,4 @@
-pub mod Puts
-pub mod Leaves
-pub mod Lists
-pub mod Sounds
-pub mod Parts
-pub mod Ordered
-pub mod Fresh
+pub mod OnConstants
+pub mod OnInitial
+pub mod OnContents
+pub mod OnMissing

@@ -1,2 +1,4 @@
-pub mod Fresh
 pub mod Constants
+pub mod Initial
+pub mod Contents
+pub mod Missing

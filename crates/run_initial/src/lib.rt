@@ -1,22 +1,20 @@
-//! Constants that are put into memory which is fresh, as the initialisers of variables are.
+//! Memory before a run: the constants of a module as values, and the first bytes of its variables.
 //!
-//! It stands on the constants of `run_constants`, the shapes of `run_shapes`, and on `ir_memory`. It promises that what is stored of a
-//! constant is what the definition of constants gives, leaf by leaf, but for integers that are 0: as those fresh memory reads already, so
-//! a value of zeros costs nothing. A store that is undefined is told as that; into a fresh block that is long enough there is none
-//! (`proofs/Fresh`). Definitions: `specs/Fresh`, `specs/Constants`; `Leaves`, `Constant` and `Access` of `run_rules`.
+//! It stands on `run_names` and `run_actions`. `constants` promises the value of a constant, `initial` and `contents` the cells of an
+//! initialiser, `missing` the first symbol that is used and defined nowhere. Definitions: `specs/Constants`, `specs/Initial`,
+//! `specs/Contents`, `specs/Missing`.
 //!
-//! ```
-//! // into a block of eight zeros
-//! let target = Target { block, offset: 4 };
-//! put_leaf(&mut memory, target, Leaf::Int(32), Scalar::Int(7))?; // now its bytes are 0, 0, 0, 0, 7, 0, 0 and 0
-//! ```
+//! Its modules:
+//!
+//! - `constants`: The leaves of the constants of a module in a run of it alone.
+//! - `initial`: Constants that are put into memory which is fresh, as the initialisers of variables
+//!   are.
+//! - `contents`: Memory as it is at first: the blocks of variables, and what variables hold.
+//! - `missing`: The first name that a run of one module lacks: a name without meaning that a
+//!   definition uses. Such a run does not begin.
 #![tactic(auto)]
 
-mod constants;
-mod filled;
-mod leaf;
-mod packed;
-mod pointers;
-
-pub use constants::{put_bytes, put_constant};
-pub use leaf::{Target, put_leaf, wanting_memory};
+pub mod constants;
+pub mod contents;
+pub mod initial;
+pub mod missing;

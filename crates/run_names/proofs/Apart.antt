@@ -1,5 +1,5 @@
 -- Parts of which each entry has a symbol of its own, as those of one module have.
-use Rattle.std.proofs.Common.{◌≡◌, ℕ, zero, suc, List, [], ◌∷◌, ◌++◌, map, filter, Bool, true, false, not, cond, Option, Some, None, refl, sym, ap, ◌∙◌, subst, true≢false}
+use Rattle.std.proofs.Common.{◌≡◌, ℕ, zero, suc, List, [], ◌∷◌, filter, Bool, true, false, not, cond, Option, Some, None, refl, sym, ap, ◌∙◌, subst, true≢false}
 use Rattle.std.specs.Prelude.{slice_get, ⊤, if◌then◌else◌}
 use Rattle.std.specs.List.{AllByRecursion}
 use Rattle.std.specs.Option.{option_map_or}
@@ -10,8 +10,8 @@ use Rattle.linkage_rules.specs.Entries.{Entry, entries, entries_of, same_symbol,
 use Rattle.linkage_rules.specs.Globals.{is_alias}
 use Rattle.linkage_rules.specs.Lists.{firsts}
 use Rattle.linkage_rules.specs.SymbolLaws.{symbol_self, symbol_exact}
-use Rattle.linkage_rules.specs.Symbols.{is_alias_symbol, first_entries, function_symbols}
-use Rattle.linkage_rules.specs.Winner.{best, definitions, home, is_definition}
+use Rattle.linkage_rules.specs.Symbols.{is_alias_symbol, first_entries}
+use Rattle.linkage_rules.specs.Winner.{best, home, is_definition}
 
 -- ---- filters
 

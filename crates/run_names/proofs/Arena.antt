@@ -1,8 +1,8 @@
 -- The entries of a sound arena, and what they mean in a run of its module alone.
-use Rattle.std.proofs.Common.{◌≡◌, ℕ, List, [], ◌∷◌, map, Bool, true, false, not, ◌&&◌, cond, Option, Some, None, is_some, refl, sym, ap, ap₂, ◌∙◌, subst, true≢false}
+use Rattle.std.proofs.Common.{◌≡◌, ℕ, List, [], ◌∷◌, map, Bool, true, false, not, ◌&&◌, Option, Some, None, is_some, refl, sym, ap, ap₂, ◌∙◌, true≢false}
 use Rattle.std.specs.Prelude.{slice_get, option_and_then, if◌then◌else◌}
 use Rattle.std.specs.Option.{option_map, option_map_or}
-use Rattle.std.proofs.lemmas.Bool.{and_parts, cond-true, cond-false}
+use Rattle.std.proofs.lemmas.Bool.{cond-true, cond-false}
 use Rattle.std.proofs.lemmas.Option.{slice_get-map, same_Some}
 use Rattle.ir_eval.specs.declared.value.Scalar.{Scalar}
 use Rattle.ir_eval.specs.declared.value.Scalar.TheVariants.{Ptr, Poison}
@@ -23,11 +23,10 @@ use Rattle.module_arena.specs.View.{module_of, variable_view, function_view, ali
 use Rattle.module_arena.specs.WellFormed.{IsWellFormed}
 use Rattle.linkage_rules.specs.Bind.{Bound, Definition, Appended, Host, Null, Unresolved, meaning, behind}
 use Rattle.linkage_rules.specs.Entries.{Entry, entries, symbol_in, symbol_of}
-use Rattle.linkage_rules.specs.Globals.{OfVariable, OfFunction, OfAlias}
+use Rattle.linkage_rules.specs.Globals.{OfVariable, OfFunction}
 use Rattle.linkage_rules.specs.Linkages.{is_local, is_appending, is_available_externally, is_extern_weak}
 use Rattle.linkage_rules.specs.Symbols.{function_symbols}
 use Rattle.linkage_rules.specs.Winner.{home, is_definition}
-use Rattle.run_rules.specs.Calls.{Callee}
 use Rattle.run_rules.specs.Calls as calls
 use Rattle.run_rules.specs.Look.{address_in, leaf_of, pointer_to, callee_by, callee_numbered, code_of, defined, defined_by, function_at, host_of}
 use Rattle.run_names.specs.declared.callee.CalleeRef.{CalleeRef}
@@ -36,11 +35,11 @@ use Rattle.run_names.specs.declared.standing.Standing.{Standing}
 use Rattle.run_names.specs.declared.standing.Standing.TheVariants as standing
 use Rattle.run_names.specs.Spots.{absent_leaf}
 use Rattle.run_names.specs.Spots as spots
-use Rattle.run_names.specs.Standings.{has_code, elsewhere, nowhere, function_stands}
+use Rattle.run_names.specs.Standings.{has_code, elsewhere, function_stands}
 use Rattle.run_names.specs.Told.{callee_seen}
 use Rattle.run_names.proofs.Apart.{own_home}
 use Rattle.run_names.proofs.Listed.{mapped_at}
-use Rattle.run_names.proofs.OneModule.{entry, module_apart, variable_in, function_in, alias_in, symbol_in_is, function_entries, function_symbols_are}
+use Rattle.run_names.proofs.OneModule.{entry, module_apart, variable_in, function_in, symbol_in_is, function_entries, function_symbols_are}
 use Rattle.run_names.proofs.Meant.{undefined_here, behind_plain, plain_means, no_function_appends, function_suits, aliases_defined}
 
 mapped_some : {A B : Type 0} (f : A → B) (o : Option A) → is_some (option_map f o) ≡ is_some o

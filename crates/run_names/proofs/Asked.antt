@@ -1,10 +1,10 @@
 -- What is told of a valid module by numbers is what look-up defines.
-use Rattle.std.proofs.Common.{◌≡◌, ◌⊎◌, inl, inr, ℕ, ◌<◌, ◌+◌, List, [], ◌∷◌, map, length, Bool, true, false, cond, Option, Some, None, refl, sym, ap, ◌∙◌, subst, true≢false, bytes_eq, All}
+use Rattle.std.proofs.Common.{◌≡◌, ◌⊎◌, inl, inr, ℕ, List, [], ◌∷◌, map, length, Bool, true, false, Option, Some, None, refl, sym, ap, ◌∙◌, subst, true≢false, bytes_eq}
 use Rattle.std.specs.Prelude.{slice_get, option_to_list, if◌then◌else◌}
 use Rattle.std.specs.List.{list_any, list_all}
 use Rattle.std.specs.Option.{option_map, option_map_or}
 use Rattle.std.proofs.lemmas.Bool.{and_parts, both_ways}
-use Rattle.std.proofs.lemmas.Option.{same_Some, slice_get-map, slice_get-get_or, get_or_from_slice_get}
+use Rattle.std.proofs.lemmas.Option.{same_Some, slice_get-map, get_or_from_slice_get}
 use Rattle.ir_eval.specs.declared.value.Scalar.{Scalar}
 use Rattle.ir_eval.specs.declared.value.Scalar.TheVariants.{Ptr}
 use Rattle.ir_tables.specs.Table.{is_distinct}
@@ -22,14 +22,14 @@ use Rattle.module_arena.specs.Names.{is_name}
 use Rattle.module_arena.specs.Valid.{IsValid}
 use Rattle.module_arena.specs.View.{module_of}
 use Rattle.module_arena.specs.WellFormed.{IsWellFormed, global_names, has_entry, is_good_alias}
-use Rattle.linkage_rules.specs.Entries.{Entry, entries, symbol_of}
-use Rattle.linkage_rules.specs.Globals.{OfAlias, OfFunction, is_alias}
+use Rattle.linkage_rules.specs.Entries.{Entry, entries}
+use Rattle.linkage_rules.specs.Globals.{OfAlias, is_alias}
 use Rattle.linkage_rules.specs.Linkages.{is_extern_weak}
 use Rattle.linkage_rules.specs.Addresses.{function_address}
 use Rattle.linkage_rules.proofs.Steps.{all_get}
 use Rattle.linkage_rules.proofs.Seen.{get_within}
 use Rattle.run_rules.specs.Calls as calls
-use Rattle.run_rules.specs.Look.{address_in, callee_numbered, function_number, pointer_to, table}
+use Rattle.run_rules.specs.Look.{address_in, callee_numbered, function_number, table}
 use Rattle.run_names.specs.declared.standing.Standing.{Standing}
 use Rattle.run_names.specs.declared.standing.Standing.TheVariants as standing
 use Rattle.run_names.specs.Spots.{AreAddresses}
@@ -37,8 +37,8 @@ use Rattle.run_names.specs.Standings.{AreStandings, elsewhere, function_stands, 
 use Rattle.run_names.specs.Told.{callee_seen}
 use Rattle.run_names.proofs.Listed.{all_at}
 use Rattle.run_names.proofs.OneModule.{entry, alias_in, names_apart, one_named}
-use Rattle.run_names.proofs.Meant.{IsTarget, target_is, alias_address}
-use Rattle.run_names.proofs.Arena.{alias_seen, alias_there, callee_of, function_callee, function_leaf, function_seen, leaf_by, no_callee}
+use Rattle.run_names.proofs.Meant.{target_is, alias_address}
+use Rattle.run_names.proofs.Arena.{alias_seen, alias_there, callee_of, function_callee, function_leaf, leaf_by, no_callee}
 use Rattle.run_names.proofs.Lies.{function_pointer}
 
 -- a function that is code has a body that counts

@@ -1,10 +1,9 @@
 -- How large variables are, and how they are aligned.
-use Rattle.std.proofs.Common.{◌≡◌, ℕ, ◌+◌, ◌-◌, ◌%◌, ◌^◌, ◌<◌, ◌≤◌, List, map, length, Bool, true, false, ◌&&◌, nat_eq, nat_le, nat_lt, cond, max, Option, Some, None, is_some, refl, sym, ap, ◌∙◌, subst, arith, get_or, ◌++◌, length-append}
+use Rattle.std.proofs.Common.{◌≡◌, ℕ, ◌+◌, ◌-◌, ◌%◌, ◌^◌, ◌<◌, ◌≤◌, map, length, Bool, true, false, ◌&&◌, nat_eq, nat_le, nat_lt, cond, Option, Some, None, is_some, refl, sym, ap, ◌∙◌, subst, arith, ◌++◌, length-append}
 use Rattle.std.specs.Prelude.{slice_get, unwrap_or, option_and_then, if◌then◌else◌}
-use Rattle.std.specs.List.{list_all, list_any}
 use Rattle.std.specs.Int.{next_multiple_of}
 use Rattle.std.specs.Option.{option_map, option_map_or}
-use Rattle.std.proofs.lemmas.Bool.{and_parts, cond-true, eqb-true, leb-true, ltb-false, both_ways}
+use Rattle.std.proofs.lemmas.Bool.{and_parts, eqb-true, leb-true, ltb-false}
 use Rattle.std.proofs.lemmas.List.{get_or-map, get_or_append_left, length-map}
 use Rattle.std.proofs.lemmas.Option.{same_Some}
 use Rattle.type_table.specs.declared.layout.Layout.{Layout}
@@ -12,7 +11,7 @@ use Rattle.type_table.specs.Layout.{layout, has_layout, size, align, greatest_al
 use Rattle.type_table.specs.Limits.{IsWithin, IsWithinLimits, all_shapes}
 use Rattle.type_table.specs.Shape.{Shape, Shapes, int_leaf, ptr_leaf, void_leaf, opaque_leaf, array_of, struct_of, no_shapes, more_shapes}
 use Rattle.type_table.specs.Shape as shapes
-use Rattle.type_table.specs.Tree.{Tree, Structs, named, void}
+use Rattle.type_table.specs.Tree.{Structs, named, void}
 use Rattle.type_table.specs.Types.{Types, names, trees, structs, tree, shape}
 use Rattle.type_table.proofs.Added.{length-trees}
 use Rattle.type_table.proofs.ShapeMeasures.{align-positive}

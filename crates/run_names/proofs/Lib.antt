@@ -10,3 +10,8 @@ pub mod Put
 pub mod Spotted
 pub mod Bounded
 pub mod Asked
+pub mod OnEntry
+pub mod OnValues
+pub mod OnHost
+pub mod OnShapes
+pub mod OnTypes

@@ -1,13 +1,12 @@
 -- Where the functions of a valid module lie in a run of the module alone.
-use Rattle.std.proofs.Common.{◌≡◌, ℕ, zero, suc, ◌+◌, ◌-◌, ◌*◌, ◌/◌, ◌%◌, ◌^◌, ◌≤◌, ◌<◌, List, [], ◌∷◌, ◌++◌, map, length, Bool, true, false, not, ◌&&◌, ◌||◌, cond, nat_lt, nat_eq, Option, Some, None, refl, sym, ap, ap₂, ◌∙◌, subst, arith, true≢false, le-leb, eq-eqb}
-use Rattle.std.specs.Prelude.{slice_get, position, unwrap_or, filter_map, ⊤, if◌then◌else◌}
+use Rattle.std.proofs.Common.{◌≡◌, ℕ, zero, suc, ◌+◌, ◌-◌, ◌*◌, ◌/◌, ◌%◌, ◌^◌, ◌≤◌, List, [], ◌∷◌, ◌++◌, map, length, true, false, not, ◌&&◌, ◌||◌, cond, nat_lt, nat_eq, Option, Some, None, refl, sym, ap, ◌∙◌, subst, arith, le-leb, eq-eqb}
+use Rattle.std.specs.Prelude.{slice_get, position, unwrap_or, filter_map, if◌then◌else◌}
 use Rattle.std.specs.List.{AllByRecursion, list_any, position_or_len, cons_option}
 use Rattle.std.specs.Map.{lookup}
 use Rattle.std.specs.Int.{next_multiple_of}
 use Rattle.std.specs.Option.{option_map}
 use Rattle.std.proofs.lemmas.Bool.{cond-true, cond-false, le-ltb, or_parts}
 use Rattle.std.proofs.lemmas.Option.{same_Some}
-use Rattle.ir_eval.specs.declared.value.Pointer.{Pointer}
 use Rattle.module_arena.specs.declared.entry.Function as the_function
 use Rattle.module_arena.specs.Lists.{Lists}
 use Rattle.module_arena.specs.Module.{Module}
@@ -15,8 +14,8 @@ use Rattle.module_arena.specs.Valid.{IsValid}
 use Rattle.module_arena.specs.View.{module_of}
 use Rattle.module_arena.specs.WellFormed.{IsWellFormed}
 use Rattle.linkage_rules.specs.declared.symbol.Symbol.{Symbol}
-use Rattle.linkage_rules.specs.Entries.{Entry, entries, same_symbol, symbol_of}
-use Rattle.linkage_rules.specs.Globals.{OfVariable, OfFunction}
+use Rattle.linkage_rules.specs.Entries.{Entry, same_symbol, symbol_of}
+use Rattle.linkage_rules.specs.Globals.{OfFunction}
 use Rattle.linkage_rules.specs.Addresses.{Room, room, rooms, place, placed_from, addressed_from, function_address}
 use Rattle.linkage_rules.specs.SymbolLaws.{symbol_self}
 use Rattle.linkage_rules.specs.Symbols.{function_symbols, variable_symbols}

@@ -1,28 +1,25 @@
 -- What the symbols of a valid module mean in a run of the module alone.
-use Rattle.std.proofs.Common.{◌≡◌, ℕ, List, [], ◌∷◌, map, Bool, true, false, not, ◌&&◌, cond, Option, Some, None, is_some, refl, sym, ap, ap₂, ◌∙◌, subst, true≢false, bytes_eq}
-use Rattle.std.specs.Prelude.{slice_get, option_and_then, position, unwrap_or, if◌then◌else◌}
+use Rattle.std.proofs.Common.{◌≡◌, ℕ, List, [], ◌∷◌, Bool, true, false, not, ◌&&◌, Some, None, is_some, refl, sym, ap, ap₂, ◌∙◌, true≢false, bytes_eq}
+use Rattle.std.specs.Prelude.{slice_get, position, unwrap_or, if◌then◌else◌}
 use Rattle.std.specs.List.{AllByRecursion, list_all, list_any}
 use Rattle.std.specs.Map.{lookup}
-use Rattle.std.specs.Option.{option_map, option_map_or}
-use Rattle.std.proofs.lemmas.Bool.{and_parts, cond-true, cond-false, both_ways, not-true, eqb-true}
+use Rattle.std.specs.Option.{option_map_or}
+use Rattle.std.proofs.lemmas.Bool.{and_parts, cond-true, cond-false, not-true}
 use Rattle.ir_eval.specs.declared.value.Pointer.{Pointer}
-use Rattle.ir_eval.specs.declared.value.Scalar.{Scalar}
-use Rattle.ir_eval.specs.declared.value.Scalar.TheVariants.{Ptr, Poison}
-use Rattle.ir_eval.specs.Cast.{pointer_at}
+use Rattle.ir_eval.specs.declared.value.Scalar.TheVariants.{Ptr}
 use Rattle.ir_tables.specs.declared.linkage.Linkage.{Linkage}
 use Rattle.ir_tables.specs.declared.linkage.Linkage.TheVariants.{Private, Internal, External, ExternWeak}
 use Rattle.module_arena.specs.EntryRules as rules
-use Rattle.module_arena.specs.declared.host.HostRow.{HostRow}
 use Rattle.module_arena.specs.HostRows.{host_row}
-use Rattle.module_arena.specs.Module.{Bytes, Variable, Alias, AliasType, PlainType, FunctionType, Function, Module}
+use Rattle.module_arena.specs.Module.{Bytes, Alias, AliasType, PlainType, FunctionType, Function, Module}
 use Rattle.module_arena.specs.Valid.{IsValid}
 use Rattle.module_arena.specs.WellFormed.{IsWellFormed}
-use Rattle.module_arena.proofs.Parts.{valid_variable, valid_alias, valid_function}
+use Rattle.module_arena.proofs.Parts.{valid_alias, valid_function}
 use Rattle.linkage_rules.specs.Bind.{Bound, Definition, Appended, Host, Null, Unresolved, all_extern_weak, is_function_symbol, undefined, bound_to, target_of, behind_from, behind, own_meaning, meaning}
 use Rattle.linkage_rules.specs.declared.symbol.Symbol.{Symbol}
 use Rattle.linkage_rules.specs.declared.symbol.Symbol.TheVariants.{Shared, Local}
 use Rattle.linkage_rules.specs.Entries.{Entry, entries, same_symbol, symbol_in, symbol_of}
-use Rattle.linkage_rules.specs.Globals.{Global, OfVariable, OfFunction, OfAlias, name_of, linkage_of, is_alias, is_variable, is_written}
+use Rattle.linkage_rules.specs.Globals.{Global, OfVariable, OfFunction, OfAlias, name_of, linkage_of, is_alias, is_variable}
 use Rattle.linkage_rules.specs.Linkages.{is_local, is_appending, is_available_externally, is_extern_weak}
 use Rattle.linkage_rules.specs.Lists.{first}
 use Rattle.linkage_rules.specs.Addresses.{place, rooms}
@@ -31,7 +28,7 @@ use Rattle.linkage_rules.specs.Winner.{home, is_definition}
 use Rattle.linkage_rules.proofs.ValidParts.{same_appending}
 use Rattle.run_rules.specs.Look.{address_in, leaf_of, pointer_to}
 use Rattle.run_names.proofs.Apart.{AreApart, own_entries, own_home}
-use Rattle.run_names.proofs.Listed.{Passes, some_passes}
+use Rattle.run_names.proofs.Listed.{some_passes}
 use Rattle.run_names.proofs.OneModule.{entry, module_apart, entries_have, variable_in, function_in, alias_in, lasting_counts, symbol_in_is}
 
 -- ---- linkages

@@ -1,18 +1,14 @@
 -- What the variables of a valid module need, and where they lie in a run of the module alone.
-use Rattle.std.proofs.Common.{◌≡◌, ℕ, zero, suc, ◌+◌, ◌*◌, ◌<◌, ◌≤◌, List, [], ◌∷◌, ◌++◌, map, filter, length, take, Bool, true, false, not, ◌&&◌, ◌||◌, cond, nat_lt, sum, Option, Some, None, is_some, refl, sym, ap, ap₂, ◌∙◌, subst, arith, true≢false, zero-add}
-use Rattle.std.specs.Prelude.{slice_get, position, unwrap_or, filter_map, if◌then◌else◌, ⊤}
-use Rattle.std.specs.List.{AllByRecursion, list_any, position_or_len, cons_option}
-use Rattle.std.specs.Map.{lookup}
-use Rattle.std.specs.Int.{next_multiple_of}
+use Rattle.std.proofs.Common.{◌≡◌, ℕ, ◌*◌, List, [], ◌∷◌, map, filter, Bool, true, false, not, ◌||◌, cond, Option, Some, None, refl, sym, ap, ◌∙◌, arith, true≢false, zero-add}
+use Rattle.std.specs.Prelude.{slice_get, unwrap_or, filter_map, if◌then◌else◌, ⊤}
+use Rattle.std.specs.List.{AllByRecursion, cons_option}
 use Rattle.std.specs.Option.{option_map, option_map_or}
-use Rattle.std.proofs.lemmas.Bool.{cond-true, cond-false, lt-ltb, or_parts, both_ways, not-true}
-use Rattle.std.proofs.lemmas.Option.{same_Some}
-use Rattle.ir_tables.specs.declared.linkage.Linkage.{Linkage}
+use Rattle.std.proofs.lemmas.Bool.{cond-true}
 use Rattle.type_table.specs.Layout.{size, align}
 use Rattle.type_table.specs.Shape.{Shape, array_of}
 use Rattle.type_table.specs.Shape as shapes
 use Rattle.type_table.specs.Tree.{Tree, Structs, int, ptr, void, array, struct, named}
-use Rattle.type_table.specs.Types.{tree, structs}
+use Rattle.type_table.specs.Types.{tree}
 use Rattle.module_arena.specs.declared.entry.Variable as the_variable
 use Rattle.module_arena.specs.EntryRules as rules
 use Rattle.module_arena.specs.Lists.{Lists}
@@ -22,18 +18,17 @@ use Rattle.module_arena.specs.View.{module_of}
 use Rattle.module_arena.specs.WellFormed.{IsWellFormed}
 use Rattle.module_arena.proofs.Parts.{valid_variable}
 use Rattle.linkage_rules.specs.declared.symbol.Symbol.{Symbol}
-use Rattle.linkage_rules.specs.Entries.{Entry, entries, entries_of, same_symbol, symbol_of}
-use Rattle.linkage_rules.specs.Globals.{Global, OfVariable, linkage_of, type_of, stated, element_of, length_of}
+use Rattle.linkage_rules.specs.Entries.{Entry, entries, symbol_of}
+use Rattle.linkage_rules.specs.Globals.{OfVariable, linkage_of, type_of, stated, element_of, length_of}
 use Rattle.linkage_rules.specs.Linkages.{is_appending, is_common}
 use Rattle.linkage_rules.specs.Lists.{greatest}
-use Rattle.linkage_rules.specs.Addresses.{Room, room, rooms, joined_length, greatest_stated, greatest_common, alignment_in, align_in, size_by, alignment_by}
-use Rattle.linkage_rules.specs.Symbols.{variable_symbols}
-use Rattle.linkage_rules.specs.Winner.{definitions, home, is_definition, size_in}
+use Rattle.linkage_rules.specs.Addresses.{Room, room, rooms, joined_length, greatest_stated, alignment_in, align_in, size_by, alignment_by}
+use Rattle.linkage_rules.specs.Winner.{definitions, is_definition, size_in}
 use Rattle.linkage_rules.proofs.ValidParts.{same_appending}
 use Rattle.run_names.specs.Spots.{is_defined, size_of, align_of}
-use Rattle.run_names.proofs.Apart.{AreApart, own_entries, own_home}
+use Rattle.run_names.proofs.Apart.{own_entries, own_home}
 use Rattle.run_names.proofs.Listed.{all_from_places}
-use Rattle.run_names.proofs.OneModule.{entry, module_apart, variable_in, variable_entries, variable_symbols_are}
+use Rattle.run_names.proofs.OneModule.{entry, module_apart, variable_in, variable_symbols_are}
 use Rattle.run_names.proofs.Meant.{aliases_defined}
 use Rattle.run_names.proofs.Arena.{variable_seen, variables_are, variable_there, structs_are, variable_defined}
 

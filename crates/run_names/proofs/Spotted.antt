@@ -1,37 +1,34 @@
 -- The spots of a valid module's variables are what opening and look-up need.
-use Rattle.std.proofs.Common.{◌≡◌, ℕ, zero, suc, ◌+◌, ◌<◌, ◌≤◌, ◌^◌, List, [], ◌∷◌, ◌++◌, map, filter, length, take, Bool, true, false, cond, Option, Some, None, refl, sym, ap, ap₂, ◌∙◌, subst, arith}
-use Rattle.std.specs.Prelude.{slice_get, slice_index_or, position, unwrap_or, option_and_then, if◌then◌else◌}
+use Rattle.std.proofs.Common.{◌≡◌, ℕ, ◌+◌, ◌≤◌, ◌^◌, List, [], ◌∷◌, ◌++◌, map, filter, length, take, Bool, true, false, cond, Option, Some, None, refl, sym, ap, ap₂, ◌∙◌, subst, arith}
+use Rattle.std.specs.Prelude.{slice_get, position, unwrap_or}
 use Rattle.std.specs.List.{AllByRecursion}
 use Rattle.std.specs.Map.{lookup}
 use Rattle.std.specs.Option.{option_map, option_map_or}
 use Rattle.std.proofs.lemmas.Bool.{cond-true, cond-false}
 use Rattle.std.proofs.lemmas.Option.{same_Some, slice_get-map, get_or_from_slice_get}
-use Rattle.ir_eval.specs.declared.value.Pointer.{Pointer}
-use Rattle.ir_eval.specs.declared.value.Scalar.{Scalar}
 use Rattle.ir_eval.specs.declared.value.Scalar.TheVariants.{Ptr}
 use Rattle.module_arena.specs.declared.entry.Variable.{Variable}
 use Rattle.module_arena.specs.declared.entry.GlobalId.TheVariants as global
-use Rattle.module_arena.specs.Lists.{Lists, name_at}
+use Rattle.module_arena.specs.Lists.{Lists}
 use Rattle.module_arena.specs.Module.{Module}
 use Rattle.module_arena.specs.Valid.{IsValid}
 use Rattle.module_arena.specs.View.{module_of}
 use Rattle.module_arena.specs.WellFormed.{IsWellFormed}
 use Rattle.module_arena.proofs.ModuleSet.{map_map}
 use Rattle.linkage_rules.specs.declared.symbol.Symbol.{Symbol}
-use Rattle.linkage_rules.specs.Entries.{Entry, entries, same_symbol, symbol_in, symbol_of}
+use Rattle.linkage_rules.specs.Entries.{Entry, same_symbol, symbol_in, symbol_of}
 use Rattle.linkage_rules.specs.Globals.{OfVariable, is_constant}
-use Rattle.linkage_rules.specs.Addresses.{Room, rooms, address, place, placed_from, addressed_from}
+use Rattle.linkage_rules.specs.Addresses.{rooms, address, placed_from, addressed_from}
 use Rattle.linkage_rules.specs.Symbols.{function_symbols}
 use Rattle.linkage_rules.specs.Winner.{home}
 use Rattle.linkage_rules.specs.Bind as bind
 use Rattle.run_rules.specs.Look.{address_in, pointer_to, variable_bounds}
 use Rattle.run_rules.specs.Plan as plans
 use Rattle.run_names.specs.declared.spot.Spot.{Spot}
-use Rattle.run_names.specs.Spots.{AreSpots, absent_leaf, bounds_of, defines, is_defined, needs, spot_of, variable_symbol}
+use Rattle.run_names.specs.Spots.{AreSpots, absent_leaf, bounds_of, defines, is_defined, needs, variable_symbol}
 use Rattle.run_names.proofs.Apart.{AreApart, same_entry}
 use Rattle.run_names.proofs.Listed.{all_from_places, at_place}
 use Rattle.run_names.proofs.OneModule.{entry, module_apart, parted, variable_entries, function_entries, alias_entries}
-use Rattle.run_names.proofs.Meant.{pointer_behind}
 use Rattle.run_names.proofs.Arena.{variable_seen, variables_are, variable_home, variable_behind, variable_address}
 use Rattle.run_names.proofs.Arena as arena
 use Rattle.run_names.proofs.Lies.{front_apart}

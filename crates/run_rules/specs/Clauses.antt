@@ -2,8 +2,8 @@
 -- A clause holds for every `rest` that the source may have left, told or not, and every `taken` that the sink may have taken before.
 use Rattle.std.specs.Prelude.{◌≡◌, ◌↔◌, ◌⊎◌, ℕ, ◌<◌, ◌≤◌, true, false, List, [], ◌++◌, length, Option, Some, None, IfSome, Result, Ok, Err}
 use Rattle.ir_base.specs.Outside.{Rose, Lost, Added}
-use Rattle.run_traffic.specs.declared.input.TheConstants.{INPUT_PIECE}
-use Rattle.run_traffic.specs.declared.output.TheConstants.{OUTPUT_PIECE}
+use Rattle.run_rules.specs.declared.traffic.input.TheConstants.{INPUT_PIECE}
+use Rattle.run_rules.specs.declared.traffic.output.TheConstants.{OUTPUT_PIECE}
 use Rattle.run_rules.specs.Machine.{Machine, RunFault, ReadFault, WriteFault, Memory, state_of, step_of, asks_of, may_want, again, remembered}
 use Rattle.run_rules.specs.State.{State, End}
 use Rattle.run_rules.specs.Step.{Step, GoesOn, IsOver}

@@ -24,3 +24,7 @@ pub mod Wants
 pub mod Machine
 pub mod Clauses
 pub mod RunClauses
+pub mod Traffic
+pub mod Laws
+pub mod Played
+pub mod Places

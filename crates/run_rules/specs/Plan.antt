@@ -11,7 +11,7 @@ use Rattle.module_arena.specs.UsedNames.{names_in_variable, names_in_function}
 use Rattle.module_arena.specs.Module.{Bytes, Module}
 use Rattle.type_table.specs.Layout.{size}
 use Rattle.linkage_rules.specs.Bind.{Bound, Unresolved, meaning}
-use Rattle.linked_contents.specs.Contents.{ContentPiece, pieces}
+use Rattle.linkage_rules.specs.Contents.Contents.{ContentPiece, pieces}
 use Rattle.linkage_rules.specs.Globals.{Global, OfVariable, OfFunction, OfAlias, linkage_of, is_constant}
 use Rattle.linkage_rules.specs.Linkages.{is_appending}
 use Rattle.linkage_rules.specs.Addresses.{rooms, Room, address}

@@ -4,7 +4,7 @@ use Rattle.std.specs.Option.{option_map_or}
 use Rattle.ir_tables.specs.declared.flag.Flag.TheVariants.{Inbounds, Samesign}
 use Rattle.ir_tables.specs.Flags.{has_flag}
 use Rattle.ir_eval.specs.declared.value.Scalar.TheVariants as scalar
-use Rattle.module_arena.specs.Module.{LocalName, Value, Operand, Incoming, Operation, Instruction, Case, Ending, Block}
+use Rattle.module_arena.specs.Module.{LocalName, Operand, Incoming, Operation, Instruction, Case, Ending, Block}
 use Rattle.module_arena.specs.Module as module_arena
 use Rattle.module_arena.specs.Module.Operation.{BinaryOperation, Compare, Convert, Select, Freeze, Phi, Load, Store, Alloca, GetElementPtr, Call, ExtractValue, InsertValue}
 use Rattle.module_arena.specs.Module.Ending.{ReturnVoid, Return, Jump, Branch, Switch, Unreachable}

@@ -1,8 +1,8 @@
 -- For `run` of a machine: what a call does, by its answer.
 use Rattle.std.specs.Prelude.{◌≡◌, ◌⊎◌, ℕ, ◌+◌, ◌-◌, ◌<◌, ◌≤◌, true, false, nat_lt, List, [], ◌++◌, length, Some, None, Result, Ok, Err, if◌then◌else◌}
 use Rattle.ir_base.specs.Outside.{Rose}
-use Rattle.run_traffic.specs.declared.input.TheConstants.{INPUT_PIECE}
-use Rattle.run_traffic.specs.declared.output.TheConstants.{OUTPUT_PIECE}
+use Rattle.run_rules.specs.declared.traffic.input.TheConstants.{INPUT_PIECE}
+use Rattle.run_rules.specs.declared.traffic.output.TheConstants.{OUTPUT_PIECE}
 use Rattle.run_rules.specs.Machine.{Machine, RunFault, ReadFault, WriteFault, Memory, state_of, look_of, step_of, advanced_of, used_up_of, run_by, asks_of}
 use Rattle.run_rules.specs.Clauses.{Outside, Traffic, Moves, MakesNoStep, IsRest, IsAtEnd, IsFront, NoFaults, Ended, CouldNotWrite, output_of, told}
 use Rattle.run_rules.specs.State.{State, End}

@@ -1,10 +1,10 @@
 -- How what is written begins: bitcode as bitcode does, and canonical text not: it is empty, or begins with a word or a name.
 use Rattle.std.proofs.Common.{◌≡◌, ℕ, zero, suc, ◌+◌, ◌*◌, ◌/◌, ◌<◌, ◌==◌, nat_lt, Bool, true, false, not, ◌&&◌, List, [], ◌∷◌, ◌++◌, length, take, drop, map, codes, Option, Some, None, refl, sym, ap, ◌∙◌, arith, true≢false}
 use Rattle.std.proofs.lemmas.Bool.{eqb-true}
-use Rattle.bits.specs.Bits.{value, stream_bits}
-use Rattle.bits.specs.Reading.{bytes_of}
-use Rattle.bits.proofs.BitsLaws.{stream_bits-take, value-byte, value-take}
-use Rattle.bits.proofs.Words.{value-nil}
+use Rattle.bit_stream.specs.Bits.Bits.{value, stream_bits}
+use Rattle.bit_stream.specs.Bits.Reading.{bytes_of}
+use Rattle.bit_stream.proofs.OnBits.BitsLaws.{stream_bits-take, value-byte, value-take}
+use Rattle.bit_stream.proofs.OnBits.Words.{value-nil}
 use Rattle.bit_stream.specs.Reader.{begins}
 use Rattle.bit_stream.specs.Writer.{begun}
 use Rattle.bit_tree.specs.Written.{written}

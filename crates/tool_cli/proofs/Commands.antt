@@ -10,9 +10,9 @@ use Rattle.command_line.specs.declared.command.OutputName.{OutputName}
 use Rattle.command_line.specs.Commands.{IsReadAs}
 use Rattle.command_line.specs.Options.{is_dash}
 use Rattle.run_rules.specs.Clauses.{Outside, outside}
-use Rattle.run_machine.proofs.Mains.{false_if, true_if}
-use Rattle.tool_ends.specs.declared.ended.Ended.{Ended}
-use Rattle.tool_ends.specs.declared.ended.Ended.TheVariants.{CannotRead, CannotWrite, Memory}
+use Rattle.ir_run.proofs.Mains.{false_if, true_if}
+use Rattle.tool_output.specs.declared.ends.ended.Ended.{Ended}
+use Rattle.tool_output.specs.declared.ends.ended.Ended.TheVariants.{CannotRead, CannotWrite, Memory}
 use Rattle.tool_cli.specs.Causes.{GaveUp, Stopped, IsUnread, IsStdinOrMemory, RefusesOne}
 use Rattle.tool_cli.specs.Inputs.{input_read, inputs_of, has_stdin, hears, hears_behind, listens, read_on, runs, runs_behind, runs_program, texts_read}
 use Rattle.tool_cli.specs.Output.{output_of, FailsToWrite, IsUnwritten, IsUnwrittenOrMemory}

@@ -7,8 +7,8 @@ use Rattle.std.proofs.lemmas.Bool.Decides.{nat_tests}
 use Rattle.ir_base.specs.Outside.{Lost}
 use Rattle.ir_base.specs.Files.{Named, ReadsFrom, IsMissing, IsOver}
 use Rattle.command_line.specs.Options.{is_dash}
-use Rattle.tool_ends.specs.declared.ended.Ended.{Ended}
-use Rattle.tool_ends.specs.declared.ended.Ended.TheVariants.{CannotRead, InputTooLarge, Memory}
+use Rattle.tool_output.specs.declared.ends.ended.Ended.{Ended}
+use Rattle.tool_output.specs.declared.ends.ended.Ended.TheVariants.{CannotRead, InputTooLarge, Memory}
 use Rattle.tool_cli.specs.Inputs.{content, stdin_after, Tells, alone, together, input_read}
 use Rattle.tool_cli.specs.Causes.{IsEmptied, HasRead, GaveUp, Refuses}
 use Rattle.tool_cli.specs.World.{found_input}

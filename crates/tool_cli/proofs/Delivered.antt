@@ -14,9 +14,9 @@ use Rattle.tool_output.specs.Written.{written}
 use Rattle.tool_output.specs.declared.format.OutputFormat.TheVariants.{Bitcode}
 use Rattle.tool_output.specs.declared.fault.OutputFault.{OutputFault}
 use Rattle.tool_output.specs.declared.fault.OutputFault.TheVariants as fault
-use Rattle.tool_ends.specs.declared.ended.Ended.{Ended}
-use Rattle.tool_ends.specs.declared.ended.Ended.TheVariants.{CannotWrite, Memory}
-use Rattle.tool_ends.specs.declared.ended.Ended.TheVariants as ends
+use Rattle.tool_output.specs.declared.ends.ended.Ended.{Ended}
+use Rattle.tool_output.specs.declared.ends.ended.Ended.TheVariants.{CannotWrite, Memory}
+use Rattle.tool_output.specs.declared.ends.ended.Ended.TheVariants as ends
 use Rattle.tool_cli.specs.Judged.{IsTextRefused, IsTextOf}
 use Rattle.tool_cli.specs.Made.{LinksTo, AssemblesTo, IsResult, format_of}
 use Rattle.tool_cli.specs.Output.{output_of, IsUnwritten, FailsToWrite, IsFileUnwritten, IsBeforeWriting, LeavesStandard, LeavesNamed, KeepsOthers, KeepsFiles, LeavesFilesBut, Delivers, IsWritten}

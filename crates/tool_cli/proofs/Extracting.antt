@@ -5,19 +5,19 @@ use Rattle.command_line.specs.declared.command.Command.{Command}
 use Rattle.command_line.specs.declared.command.Command.TheVariants.{Extract}
 use Rattle.command_line.specs.declared.command.OutputName.{OutputName}
 use Rattle.command_line.specs.declared.command.SelectionWords as words
-use Rattle.extract_core.specs.Extracted.{Extracted}
-use Rattle.extract_core.specs.Faults.{HasFault}
-use Rattle.extract_core.specs.Selected.{no_such_symbol}
-use Rattle.extract_core.specs.declared.selection.ExtractFault.{ExtractFault}
-use Rattle.extract_core.specs.declared.selection.ExtractFault.TheVariants as faults
-use Rattle.extract_core.specs.declared.selection.Selection.{Selection}
+use Rattle.extract_rules.specs.Extracted.{Extracted}
+use Rattle.extract_rules.specs.Faults.{HasFault}
+use Rattle.extract_rules.specs.Selected.{no_such_symbol}
+use Rattle.extract_rules.specs.declared.selection.ExtractFault.{ExtractFault}
+use Rattle.extract_rules.specs.declared.selection.ExtractFault.TheVariants as faults
+use Rattle.extract_rules.specs.declared.selection.Selection.{Selection}
 use Rattle.module_arena.specs.Lists.{Lists}
 use Rattle.module_arena.specs.Module.{Module}
 use Rattle.module_arena.specs.View.{module_of}
 use Rattle.name_rules.specs.Spelled.{spelled_global}
-use Rattle.tool_ends.specs.declared.ended.Ended.{Ended}
-use Rattle.tool_ends.specs.declared.ended.Ended.TheVariants.{NoSuchSymbol, Memory}
-use Rattle.tool_ends.specs.declared.ended.Ended.TheVariants as ends
+use Rattle.tool_output.specs.declared.ends.ended.Ended.{Ended}
+use Rattle.tool_output.specs.declared.ends.ended.Ended.TheVariants.{NoSuchSymbol, Memory}
+use Rattle.tool_output.specs.declared.ends.ended.Ended.TheVariants as ends
 use Rattle.tool_output.specs.Written.{written}
 use Rattle.tool_cli.specs.Made.{ExtractsTo, IsPart, IsResult, format_of, selection_of}
 use Rattle.tool_cli.specs.Told.{part_end, IsExtraction, IsWork}

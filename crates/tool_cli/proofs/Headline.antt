@@ -8,7 +8,7 @@ use Rattle.bit_tree.proofs.OneTree.{one_tree}
 use Rattle.ir_base.specs.Files.{Named}
 use Rattle.ir_syntax.proofs.Refusals.{refused_bad}
 use Rattle.ir_syntax.proofs.Results.{items_not_bad, one_items}
-use Rattle.canon_reads.specs.Laws.{IsReadBack}
+use Rattle.canonical.specs.Reads.Laws.{IsReadBack}
 use Rattle.canonical.specs.Canonical.{canon}
 use Rattle.command_line.specs.declared.command.Command.{Command}
 use Rattle.command_line.specs.declared.command.Command.TheVariants.{Link}
@@ -21,7 +21,7 @@ use Rattle.module_arena.specs.Valid.{IsValid, demands}
 use Rattle.module_arena.specs.WellFormed.{IsWellFormed}
 use Rattle.module_arena.proofs.FirstFailure.{none_fails}
 use Rattle.module_arena.proofs.Found.{none≢some}
-use Rattle.module_linker.specs.Counts.{Count, too_many}
+use Rattle.link_rules.specs.Counts.{Count, too_many}
 use Rattle.name_rules.specs.Breaks.{first_break}
 use Rattle.name_rules.specs.Laws.{ReadsOnce}
 use Rattle.name_rules.specs.ModuleOf.{module_of_items}
@@ -32,11 +32,11 @@ use Rattle.record_read.specs.declared.fault.BitcodeFault.TheVariants as bitcode_
 use Rattle.record_table.specs.Records.{Spells, fault_in, record_fault}
 use Rattle.record_table.specs.Spelling.{spelling}
 use Rattle.run_rules.specs.Same.{RunAlike}
-use Rattle.spelled_alone.specs.Laws.{ModulesAreSpelledAlone}
-use Rattle.type_verify.specs.declared.fault.VerifyFault.{VerifyFault}
-use Rattle.type_verify.specs.declared.fault.VerifyFault.TheVariants as verdicts
-use Rattle.tool_ends.specs.declared.ended.Ended.{Ended}
-use Rattle.tool_ends.specs.declared.ended.Ended.TheVariants as ends
+use Rattle.record_law.specs.Alone.Laws.{ModulesAreSpelledAlone}
+use Rattle.entry_verify.specs.declared.types.fault.VerifyFault.{VerifyFault}
+use Rattle.entry_verify.specs.declared.types.fault.VerifyFault.TheVariants as verdicts
+use Rattle.tool_output.specs.declared.ends.ended.Ended.{Ended}
+use Rattle.tool_output.specs.declared.ends.ended.Ended.TheVariants as ends
 use Rattle.tool_output.specs.Outputs.{Outputs}
 use Rattle.tool_output.specs.Written.{written}
 use Rattle.tool_output.specs.declared.format.OutputFormat.{OutputFormat}

@@ -9,8 +9,8 @@ use Rattle.std.proofs.lemmas.Bool.{false_from_ne_true}
 use Rattle.ir_base.specs.Outside.{Lost, LostUpTo}
 use Rattle.ir_base.specs.Files.{Named, IsMissing, IsOver, ReadsFrom}
 use Rattle.command_line.specs.Options.{is_dash}
-use Rattle.tool_ends.specs.declared.ended.Ended.{Ended}
-use Rattle.tool_ends.specs.declared.ended.Ended.TheVariants.{CannotRead, InputTooLarge, Memory}
+use Rattle.tool_output.specs.declared.ends.ended.Ended.{Ended}
+use Rattle.tool_output.specs.declared.ends.ended.Ended.TheVariants.{CannotRead, InputTooLarge, Memory}
 use Rattle.tool_cli.specs.Inputs.{content, has_stdin, stdin_after, Tells, TellsAll, input_read, with_text, read_on, texts_read}
 use Rattle.tool_cli.specs.Causes.{IsEmptied, HasRead, GaveUp, MayPassTogether, Refuses, RefusesOne}
 use Rattle.tool_cli.specs.Reads.{LeavesFiles}

@@ -6,8 +6,8 @@ use Rattle.std.proofs.lemmas.List.{take_more, take_all}
 use Rattle.ir_syntax.specs.Tree.{ItemTree}
 use Rattle.linkage_rules.specs.Conflicts.{FoundConflict, first_conflict}
 use Rattle.linkage_rules.specs.Ids.{modules}
-use Rattle.module_linker.specs.Counts.{Count, too_many}
-use Rattle.module_linker.specs.Linked.{link_result}
+use Rattle.link_rules.specs.Counts.{Count, too_many}
+use Rattle.link_rules.specs.Linked.{link_result}
 use Rattle.run_rules.specs.Same.{RunAlike}
 use Rattle.module_arena.specs.Functions.{first_too_large}
 use Rattle.module_arena.specs.Valid.{IsValid}
@@ -17,9 +17,9 @@ use Rattle.module_arena.specs.Module.{Module}
 use Rattle.module_arena.specs.View.{module_of}
 use Rattle.name_rules.specs.Reads.{Reads}
 use Rattle.record_table.specs.Records.{Spells}
-use Rattle.tool_ends.specs.declared.ended.Ended.{Ended}
-use Rattle.tool_ends.specs.declared.ended.Ended.TheVariants.{Memory}
-use Rattle.tool_ends.specs.declared.ended.Ended.TheVariants as ends
+use Rattle.tool_output.specs.declared.ends.ended.Ended.{Ended}
+use Rattle.tool_output.specs.declared.ends.ended.Ended.TheVariants.{Memory}
+use Rattle.tool_output.specs.declared.ends.ended.Ended.TheVariants as ends
 use Rattle.tool_cli.specs.Judged.{is_bitcode, AreAccepted, HasModule, IsBitcodeOf, IsBitcodeRefused, IsPartAccepted, IsPartRefused, IsTextOf, IsTextRefused}
 use Rattle.tool_cli.specs.Made.{AreParts, IsPart, LinksTo}
 use Rattle.tool_cli.specs.Told.{link_end, IsLinking}

@@ -3,8 +3,8 @@ use Rattle.std.proofs.Common.{◌≡◌, ◌⊎◌, inl, inr, ℕ, zero, suc, �
 use Rattle.std.specs.List.{IsAmong}
 use Rattle.ir_base.specs.Files.{Named}
 use Rattle.command_line.specs.Options.{is_dash}
-use Rattle.tool_ends.specs.declared.ended.Ended.{Ended}
-use Rattle.tool_ends.specs.declared.ended.Ended.TheVariants.{CannotRead, InputTooLarge, Memory}
+use Rattle.tool_output.specs.declared.ends.ended.Ended.{Ended}
+use Rattle.tool_output.specs.declared.ends.ended.Ended.TheVariants.{CannotRead, InputTooLarge, Memory}
 use Rattle.tool_cli.specs.Causes.{Refuses}
 use Rattle.tool_cli.specs.Order.{has_file, behind_stdin, refused_input, IsBeforeStdin, KeepsOrder}
 use Rattle.tool_cli.specs.Told.{IsOfRun}

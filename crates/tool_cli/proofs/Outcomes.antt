@@ -12,8 +12,8 @@ use Rattle.command_line.specs.declared.command.WordsFault.TheVariants as faults
 use Rattle.command_line.specs.Commands.{IsReadAs, IsUnlessMemory}
 use Rattle.command_line.specs.Options.{is_dash}
 use Rattle.tool_output.specs.Outputs.{Outputs}
-use Rattle.tool_ends.specs.declared.ended.Ended.{Ended}
-use Rattle.tool_ends.specs.declared.ended.Ended.TheVariants.{Usage, CannotRead, CannotWrite, InputTooLarge, Memory}
+use Rattle.tool_output.specs.declared.ends.ended.Ended.{Ended}
+use Rattle.tool_output.specs.declared.ends.ended.Ended.TheVariants.{Usage, CannotRead, CannotWrite, InputTooLarge, Memory}
 use Rattle.tool_cli.specs.Inputs.{inputs_of, inputs_behind, inputs_named, runs_program, texts_read}
 use Rattle.tool_cli.specs.Causes.{GaveUp, Stopped, IsUnread, IsPassed, RefusesOne}
 use Rattle.tool_cli.specs.Analyzed.{is_analysis, is_analysis_behind, analyzes}

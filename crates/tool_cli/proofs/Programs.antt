@@ -9,8 +9,8 @@ use Rattle.ir_syntax.specs.declared.read.SyntaxFault.TheVariants as syntax_fault
 use Rattle.module_arena.specs.Module.{Module}
 use Rattle.name_rules.specs.declared.fault.ResolveFault.{ResolveFault}
 use Rattle.name_rules.specs.declared.fault.ResolveFault.TheVariants as breaks
-use Rattle.run_played.specs.Played.{HasPrinted, Plays, Program, outcome_of}
-use Rattle.run_played.proofs.Whole.{left_behind}
+use Rattle.run_rules.specs.Played.Played.{HasPrinted, Plays, Program, outcome_of}
+use Rattle.run_rules.proofs.OnPlayed.Whole.{left_behind}
 use Rattle.run_rules.specs.Clauses.{Outside}
 use Rattle.run_rules.specs.Step.{Outcome}
 use Rattle.run_rules.specs.declared.end.End.{End}
@@ -19,10 +19,10 @@ use Rattle.run_rules.specs.declared.fault.RunFault.{RunFault}
 use Rattle.run_rules.specs.declared.fault.RunFault.TheVariants as faults
 use Rattle.record_read.specs.declared.fault.BitcodeFault.{BitcodeFault}
 use Rattle.record_read.specs.declared.fault.BitcodeFault.TheVariants as bitcode_faults
-use Rattle.type_verify.specs.declared.fault.VerifyFault.{VerifyFault}
-use Rattle.type_verify.specs.declared.fault.VerifyFault.TheVariants as verdicts
-use Rattle.tool_ends.specs.declared.ended.Ended.{Ended}
-use Rattle.tool_ends.specs.declared.ended.Ended.TheVariants.{CannotRead, CannotWrite, Memory}
+use Rattle.entry_verify.specs.declared.types.fault.VerifyFault.{VerifyFault}
+use Rattle.entry_verify.specs.declared.types.fault.VerifyFault.TheVariants as verdicts
+use Rattle.tool_output.specs.declared.ends.ended.Ended.{Ended}
+use Rattle.tool_output.specs.declared.ends.ended.Ended.TheVariants.{CannotRead, CannotWrite, Memory}
 use Rattle.tool_cli.specs.Causes.{Stopped}
 use Rattle.tool_cli.specs.Judged.{is_bitcode, bitcode_told, refusal_told, break_told, verdict_told, IsBitcodeRefused, IsPartRefused, IsTextRefused}
 use Rattle.tool_cli.specs.Made.{IsPart}

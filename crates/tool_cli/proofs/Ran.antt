@@ -8,7 +8,7 @@ use Rattle.command_line.specs.declared.command.Command.TheVariants.{Lli}
 use Rattle.command_line.specs.Options.{is_dash}
 use Rattle.module_arena.specs.Module.{Module}
 use Rattle.name_rules.specs.Laws.{ReadsOnce}
-use Rattle.run_played.specs.Played.{Plays, Program, outcome_of}
+use Rattle.run_rules.specs.Played.Played.{Plays, Program, outcome_of}
 use Rattle.run_rules.specs.Clauses.{Outside}
 use Rattle.run_rules.specs.Same.{RunAlike}
 use Rattle.run_rules.specs.Side.{Side}
@@ -16,8 +16,8 @@ use Rattle.run_rules.specs.Step.{Outcome}
 use Rattle.run_rules.specs.declared.end.End.{End}
 use Rattle.run_rules.specs.declared.fault.RunFault.{RunFault}
 use Rattle.run_rules.specs.declared.fault.RunFault.TheVariants as faults
-use Rattle.tool_ends.specs.declared.ended.Ended.{Ended}
-use Rattle.tool_ends.specs.declared.ended.Ended.TheVariants.{Memory}
+use Rattle.tool_output.specs.declared.ends.ended.Ended.{Ended}
+use Rattle.tool_output.specs.declared.ends.ended.Ended.TheVariants.{Memory}
 use Rattle.tool_cli.specs.Inputs.{inputs_of, listens, read_on, texts_read}
 use Rattle.tool_cli.specs.Judged.{IsPartRefused}
 use Rattle.tool_cli.specs.Made.{IsPart}

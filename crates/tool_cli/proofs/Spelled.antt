@@ -12,11 +12,11 @@ use Rattle.record_read.specs.declared.fault.BitcodeFault.{BitcodeFault}
 use Rattle.record_read.specs.declared.fault.BitcodeFault.TheVariants as faults
 use Rattle.record_table.specs.Faults.{Answer, records}
 use Rattle.record_table.specs.Records.{Spells, StandFor, read}
-use Rattle.type_verify.specs.declared.fault.VerifyFault.{VerifyFault}
-use Rattle.type_verify.specs.declared.fault.VerifyFault.TheVariants as verdicts
-use Rattle.tool_ends.specs.declared.ended.Ended.{Ended}
-use Rattle.tool_ends.specs.declared.ended.Ended.TheVariants.{Memory}
-use Rattle.tool_ends.specs.declared.ended.Ended.TheVariants as ends
+use Rattle.entry_verify.specs.declared.types.fault.VerifyFault.{VerifyFault}
+use Rattle.entry_verify.specs.declared.types.fault.VerifyFault.TheVariants as verdicts
+use Rattle.tool_output.specs.declared.ends.ended.Ended.{Ended}
+use Rattle.tool_output.specs.declared.ends.ended.Ended.TheVariants.{Memory}
+use Rattle.tool_output.specs.declared.ends.ended.Ended.TheVariants as ends
 use Rattle.tool_output.specs.Written.{written}
 use Rattle.tool_output.specs.declared.format.OutputFormat.TheVariants.{CanonicalText}
 use Rattle.tool_cli.specs.Judged.{bitcode_told, verdict_told, IsBitcodeOf, IsBitcodeRefused}

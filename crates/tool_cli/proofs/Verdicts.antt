@@ -5,11 +5,11 @@ use Rattle.ir_syntax.specs.Tree.{ItemTree}
 use Rattle.module_arena.specs.Module.{Module}
 use Rattle.name_rules.specs.ModuleOf.{module_of_items}
 use Rattle.name_rules.specs.Reads.{Reads, Resolves}
-use Rattle.type_verify.specs.declared.fault.VerifyFault.{VerifyFault}
-use Rattle.type_verify.specs.declared.fault.VerifyFault.TheVariants as verdicts
+use Rattle.entry_verify.specs.declared.types.fault.VerifyFault.{VerifyFault}
+use Rattle.entry_verify.specs.declared.types.fault.VerifyFault.TheVariants as verdicts
 use Rattle.path_verify.specs.Verified.{Verifies}
-use Rattle.tool_ends.specs.declared.ended.Ended.{Ended}
-use Rattle.tool_ends.specs.declared.ended.Ended.TheVariants.{Memory}
+use Rattle.tool_output.specs.declared.ends.ended.Ended.{Ended}
+use Rattle.tool_output.specs.declared.ends.ended.Ended.TheVariants.{Memory}
 use Rattle.tool_cli.specs.Judged.{IsTextRefused, verdict_told}
 
 -- a refusal of the module is one of its text

@@ -11,9 +11,9 @@ use Rattle.command_line.specs.declared.command.UsageKind.{UsageKind}
 use Rattle.command_line.specs.Options.{is_dash}
 use Rattle.bit_dump.specs.Text.{dump_text}
 use Rattle.tool_output.specs.Outputs.{Outputs, outputs}
-use Rattle.tool_ends.specs.declared.ended.Ended.{Ended}
-use Rattle.tool_ends.specs.declared.ended.Ended.TheVariants.{Usage, CannotRead, CannotWrite, InputTooLarge, Memory}
-use Rattle.tool_ends.specs.declared.ended.Ended.TheVariants as ends
+use Rattle.tool_output.specs.declared.ends.ended.Ended.{Ended}
+use Rattle.tool_output.specs.declared.ends.ended.Ended.TheVariants.{Usage, CannotRead, CannotWrite, InputTooLarge, Memory}
+use Rattle.tool_output.specs.declared.ends.ended.Ended.TheVariants as ends
 use Rattle.tool_cli.specs.Inputs.{inputs_of}
 use Rattle.tool_cli.specs.Causes.{RefusesOne}
 use Rattle.tool_cli.specs.Analyzed.{IsAnalysis, IsDumped, IsBeforeWork}

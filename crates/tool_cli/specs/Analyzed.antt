@@ -1,7 +1,7 @@
 -- For `run_tool`: what telling the stream of an input comes to: the end, and what standard output took.
 use Rattle.std.specs.Prelude.{◌≡◌, ◌⊎◌, ◌&&◌, ℕ, Bool, true, false, List, drop, Option, Some, None}
 use Rattle.ir_base.specs.Outside.{Added}
-use Rattle.bits.specs.declared.fault.BitFault.{BitFault as TheFault}
+use Rattle.bit_stream.specs.declared.bits.fault.BitFault.{BitFault as TheFault}
 use Rattle.bit_tree.specs.Stream.{StreamTree, Stream, stream_fault}
 use Rattle.bit_dump.specs.Dumped.{WroteFront}
 use Rattle.bit_dump.specs.Text.{dump_text}
@@ -10,9 +10,9 @@ use Rattle.command_line.specs.declared.command.Command.TheVariants.{Analyze}
 use Rattle.command_line.specs.Tools.{tool_of}
 use Rattle.command_line.specs.Options.{is_dash}
 use Rattle.command_line.specs.Commands.{command_behind}
-use Rattle.tool_ends.specs.declared.ended.Ended.{Ended}
-use Rattle.tool_ends.specs.declared.ended.Ended.TheVariants.{Usage, CannotRead, CannotWrite, InputTooLarge, BitFault, Memory}
-use Rattle.tool_ends.specs.declared.ended.Ended.TheVariants as ends
+use Rattle.tool_output.specs.declared.ends.ended.Ended.{Ended}
+use Rattle.tool_output.specs.declared.ends.ended.Ended.TheVariants.{Usage, CannotRead, CannotWrite, InputTooLarge, BitFault, Memory}
+use Rattle.tool_output.specs.declared.ends.ended.Ended.TheVariants as ends
 
 -- the command tells a stream
 abbrev pub is_analysis : Command → Bool

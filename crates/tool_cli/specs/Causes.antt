@@ -6,8 +6,8 @@ use Rattle.ir_base.specs.Outside.{Lost}
 use Rattle.ir_base.specs.Files.{Named, IsMissing, IsOver, ReadsFrom}
 use Rattle.command_line.specs.declared.command.OutputName.{OutputName}
 use Rattle.command_line.specs.Options.{is_dash}
-use Rattle.tool_ends.specs.declared.ended.Ended.{Ended}
-use Rattle.tool_ends.specs.declared.ended.Ended.TheVariants.{CannotRead, InputTooLarge, Memory}
+use Rattle.tool_output.specs.declared.ends.ended.Ended.{Ended}
+use Rattle.tool_output.specs.declared.ends.ended.Ended.TheVariants.{CannotRead, InputTooLarge, Memory}
 use Rattle.tool_cli.specs.declared.inputs.TheConstants.{LARGEST, LARGEST_TOGETHER}
 use Rattle.tool_cli.specs.Output.{output_named, FailsToWrite}
 use Rattle.tool_cli.specs.World.{FoundInput, Failures, World, failed}

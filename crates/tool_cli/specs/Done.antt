@@ -3,8 +3,8 @@ use Rattle.std.specs.Prelude.{◌≡◌, ◌⊎◌, ℕ, ◌<◌, List, Option}
 use Rattle.ir_base.specs.Outside.{Rose}
 use Rattle.command_line.specs.declared.command.Command.{Command}
 use Rattle.command_line.specs.declared.command.OutputName.{OutputName}
-use Rattle.tool_ends.specs.declared.ended.Ended.{Ended}
-use Rattle.tool_ends.specs.declared.ended.Ended.TheVariants.{CannotWrite}
+use Rattle.tool_output.specs.declared.ends.ended.Ended.{Ended}
+use Rattle.tool_output.specs.declared.ends.ended.Ended.TheVariants.{CannotWrite}
 use Rattle.tool_output.specs.Outputs.{outputs}
 use Rattle.tool_cli.specs.Output.{output_of, FailsToWrite, IsFileUnwritten, IsUnwritten, IsUnwrittenOrMemory, IsWritten, LeavesFilesBut, LeavesNamed, LeavesStandard}
 use Rattle.tool_cli.specs.Told.{IsOfWork, IsWork}

@@ -6,8 +6,8 @@ use Rattle.command_line.specs.declared.command.Command.{Command}
 use Rattle.command_line.specs.declared.command.UsageKind.{UsageKind}
 use Rattle.command_line.specs.Commands.{IsReadAs}
 use Rattle.command_line.specs.Faults.{IsFirstFault}
-use Rattle.tool_ends.specs.declared.ended.Ended.{Ended}
-use Rattle.tool_ends.specs.declared.ended.Ended.TheVariants.{Usage, Memory}
+use Rattle.tool_output.specs.declared.ends.ended.Ended.{Ended}
+use Rattle.tool_output.specs.declared.ends.ended.Ended.TheVariants.{Usage, Memory}
 use Rattle.tool_cli.specs.Analyzed.{analyzes, IsBeforeWork}
 use Rattle.tool_cli.specs.Causes.{IsEmptied, IsStopped}
 use Rattle.tool_cli.specs.Inputs.{inputs_named, inputs_of, has_stdin, listens, runs, TellsAll, TellsRun}

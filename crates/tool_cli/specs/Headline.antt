@@ -10,11 +10,11 @@ use Rattle.module_arena.specs.Functions.{first_too_large}
 use Rattle.module_arena.specs.Module.{Module}
 use Rattle.module_arena.specs.Valid.{IsValid}
 use Rattle.module_arena.specs.WellFormed.{IsWellFormed}
-use Rattle.module_linker.specs.Counts.{Count, too_many}
+use Rattle.link_rules.specs.Counts.{Count, too_many}
 use Rattle.run_rules.specs.Same.{RunAlike}
-use Rattle.tool_ends.specs.declared.ended.Ended.{Ended}
-use Rattle.tool_ends.specs.declared.ended.Ended.TheVariants.{Conflict, TooMany}
-use Rattle.tool_ends.specs.declared.ended.Ended.TheVariants as ends
+use Rattle.tool_output.specs.declared.ends.ended.Ended.{Ended}
+use Rattle.tool_output.specs.declared.ends.ended.Ended.TheVariants.{Conflict, TooMany}
+use Rattle.tool_output.specs.declared.ends.ended.Ended.TheVariants as ends
 use Rattle.tool_output.specs.Outputs.{Outputs, IsPut}
 use Rattle.tool_output.specs.Written.{written}
 use Rattle.tool_output.specs.declared.format.OutputFormat.{OutputFormat}

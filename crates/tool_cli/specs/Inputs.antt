@@ -8,8 +8,8 @@ use Rattle.command_line.specs.declared.command.Command.TheVariants.{Assemble, Di
 use Rattle.command_line.specs.Tools.{tool_of}
 use Rattle.command_line.specs.Options.{is_dash}
 use Rattle.command_line.specs.Commands.{command_behind}
-use Rattle.tool_ends.specs.declared.ended.Ended.{Ended}
-use Rattle.tool_ends.specs.declared.ended.Ended.TheVariants.{CannotRead, InputTooLarge}
+use Rattle.tool_output.specs.declared.ends.ended.Ended.{Ended}
+use Rattle.tool_output.specs.declared.ends.ended.Ended.TheVariants.{CannotRead, InputTooLarge}
 use Rattle.tool_cli.specs.declared.inputs.TheConstants.{LARGEST, LARGEST_TOGETHER}
 
 -- the names of a command's inputs, in the order of the words; standard input is `-`

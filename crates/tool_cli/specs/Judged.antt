@@ -22,11 +22,11 @@ use Rattle.name_rules.specs.declared.fault.ResolveFault.TheVariants as breaks
 use Rattle.record_read.specs.declared.fault.BitcodeFault.{BitcodeFault}
 use Rattle.record_read.specs.declared.fault.BitcodeFault.TheVariants as bitcode_faults
 use Rattle.record_table.specs.Records.{Spells}
-use Rattle.type_verify.specs.declared.fault.VerifyFault.{VerifyFault}
-use Rattle.type_verify.specs.declared.fault.VerifyFault.TheVariants as verdicts
+use Rattle.entry_verify.specs.declared.types.fault.VerifyFault.{VerifyFault}
+use Rattle.entry_verify.specs.declared.types.fault.VerifyFault.TheVariants as verdicts
 use Rattle.path_verify.specs.Verified.{Verifies}
-use Rattle.tool_ends.specs.declared.ended.Ended.{Ended}
-use Rattle.tool_ends.specs.declared.ended.Ended.TheVariants.{BadByte, NoItemHere, LeftOutWord, TooMany, Duplicate, UnknownName, WrongNumber, ConstantRange, TooDeep, SelfContaining, TooLarge, FunctionTooLarge, Invalid, BitFault, ForeignProducer, BadVersion, UnknownRecord, BadRecord, Memory}
+use Rattle.tool_output.specs.declared.ends.ended.Ended.{Ended}
+use Rattle.tool_output.specs.declared.ends.ended.Ended.TheVariants.{BadByte, NoItemHere, LeftOutWord, TooMany, Duplicate, UnknownName, WrongNumber, ConstantRange, TooDeep, SelfContaining, TooLarge, FunctionTooLarge, Invalid, BitFault, ForeignProducer, BadVersion, UnknownRecord, BadRecord, Memory}
 use Rattle.tool_cli.specs.declared.inputs.TheConstants.{LARGEST}
 
 -- The bytes that bitcode begins with (LLVM Bitcode File Format, "LLVM IR Magic Number").

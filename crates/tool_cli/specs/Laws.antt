@@ -1,7 +1,7 @@
 -- For `accepted_is_not_refused` and `inputs_are_readable`: what is accepted is refused by no tool, and what was written can be read as an input.
 use Rattle.std.specs.Prelude.{ℕ, List}
 use Rattle.module_arena.specs.Module.{Module}
-use Rattle.tool_ends.specs.declared.ended.Ended.{Ended}
+use Rattle.tool_output.specs.declared.ends.ended.Ended.{Ended}
 use Rattle.tool_output.specs.declared.format.OutputFormat.{OutputFormat}
 use Rattle.tool_cli.specs.Headline.{AreReadable}
 use Rattle.tool_cli.specs.Judged.{IsBitcodeOf, IsBitcodeRefused, IsPartRefused, IsShort, IsTextRefused}

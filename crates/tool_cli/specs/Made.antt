@@ -7,12 +7,12 @@ use Rattle.command_line.specs.declared.command.Command.{Command}
 use Rattle.command_line.specs.declared.command.Command.TheVariants.{Assemble, Disassemble, Link, Extract, Analyze}
 use Rattle.command_line.specs.declared.command.SelectionWords as words
 use Rattle.linkage_rules.specs.Conflicts.{first_conflict}
-use Rattle.module_linker.specs.Counts.{too_many}
-use Rattle.module_linker.specs.Linked.{link_result}
+use Rattle.link_rules.specs.Counts.{too_many}
+use Rattle.link_rules.specs.Linked.{link_result}
 use Rattle.run_rules.specs.Same.{RunAlike}
-use Rattle.extract_core.specs.Extracted.{Extracted}
-use Rattle.extract_core.specs.Selected.{no_such_symbol}
-use Rattle.extract_core.specs.declared.selection.Selection.{Selection}
+use Rattle.extract_rules.specs.Extracted.{Extracted}
+use Rattle.extract_rules.specs.Selected.{no_such_symbol}
+use Rattle.extract_rules.specs.declared.selection.Selection.{Selection}
 use Rattle.tool_output.specs.Written.{written}
 use Rattle.tool_output.specs.declared.format.OutputFormat.{OutputFormat}
 use Rattle.tool_output.specs.declared.format.OutputFormat.TheVariants.{CanonicalText, Bitcode}

@@ -3,8 +3,8 @@ use Rattle.std.specs.Prelude.{◌≡◌, ◌⊎◌, ℕ, Bool, false, not, List,
 use Rattle.std.specs.List.{IsAmong, list_any}
 use Rattle.ir_base.specs.Files.{Named}
 use Rattle.command_line.specs.Options.{is_dash}
-use Rattle.tool_ends.specs.declared.ended.Ended.{Ended}
-use Rattle.tool_ends.specs.declared.ended.Ended.TheVariants.{CannotRead, InputTooLarge}
+use Rattle.tool_output.specs.declared.ends.ended.Ended.{Ended}
+use Rattle.tool_output.specs.declared.ends.ended.Ended.TheVariants.{CannotRead, InputTooLarge}
 use Rattle.tool_cli.specs.Inputs.{texts_read}
 use Rattle.tool_cli.specs.Causes.{GaveUp}
 

@@ -8,9 +8,9 @@ use Rattle.command_line.specs.declared.command.OutputName.TheVariants.{Standard,
 use Rattle.command_line.specs.Tools.{tool_of}
 use Rattle.command_line.specs.Commands.{IsReadAs, command_behind}
 use Rattle.tool_output.specs.Outputs.{Outputs, told_name, IsPut, IsPartlyPut}
-use Rattle.tool_ends.specs.declared.ended.Ended.{Ended}
-use Rattle.tool_ends.specs.declared.ended.Ended.TheVariants.{CannotWrite, Memory}
-use Rattle.tool_ends.specs.declared.ended.Ended.TheVariants as ends
+use Rattle.tool_output.specs.declared.ends.ended.Ended.{Ended}
+use Rattle.tool_output.specs.declared.ends.ended.Ended.TheVariants.{CannotWrite, Memory}
+use Rattle.tool_output.specs.declared.ends.ended.Ended.TheVariants as ends
 use Rattle.tool_cli.specs.Analyzed.{is_analysis}
 use Rattle.tool_cli.specs.Inputs.{inputs_of, runs_program, texts_read}
 use Rattle.tool_cli.specs.Made.{IsResult}

@@ -5,8 +5,8 @@ use Rattle.std.specs.Bool.{MatchBool}
 use Rattle.std.specs.List.{IsAmong}
 use Rattle.ir_base.specs.Outside.{Rose, Lost, LostUpTo}
 use Rattle.ir_base.specs.Files.{Named}
-use Rattle.tool_ends.specs.declared.ended.Ended.{Ended}
-use Rattle.tool_ends.specs.declared.ended.Ended.TheVariants.{CannotRead, CannotWrite, InputTooLarge}
+use Rattle.tool_output.specs.declared.ends.ended.Ended.{Ended}
+use Rattle.tool_output.specs.declared.ends.ended.Ended.TheVariants.{CannotRead, CannotWrite, InputTooLarge}
 use Rattle.tool_cli.specs.Causes.{IsStdinOrMemory, IsUnreadOrMemory, IsUnread, IsPassed}
 use Rattle.tool_cli.specs.Inputs.{inputs_named, listens}
 use Rattle.tool_cli.specs.Output.{output_named, LeavesFilesBut, IsUnwritten, IsUnwrittenOrMemory, IsFileUnwritten}

@@ -10,7 +10,7 @@ use Rattle.command_line.specs.Commands.{IsReadAs}
 use Rattle.command_line.specs.Options.{is_dash}
 use Rattle.module_arena.specs.Module.{Module}
 use Rattle.name_rules.specs.Spelled.{spelled_global}
-use Rattle.run_played.specs.Played.{Plays, Program, outcome_of}
+use Rattle.run_rules.specs.Played.Played.{Plays, Program, outcome_of}
 use Rattle.run_rules.specs.Clauses.{Outside, outside}
 use Rattle.run_rules.specs.Side.{Side}
 use Rattle.run_rules.specs.Step.{Outcome}
@@ -18,9 +18,9 @@ use Rattle.run_rules.specs.declared.end.End.{End}
 use Rattle.run_rules.specs.declared.end.End.TheVariants as stops
 use Rattle.run_rules.specs.declared.fault.RunFault.{RunFault}
 use Rattle.run_rules.specs.declared.fault.RunFault.TheVariants as faults
-use Rattle.tool_ends.specs.declared.ended.Ended.{Ended}
-use Rattle.tool_ends.specs.declared.ended.Ended.TheVariants.{Exit, StepsUsed, Undefined, StackLimit, MemoryLimit, Unresolved, NoMain, CannotRead, CannotWrite, Memory}
-use Rattle.tool_ends.specs.declared.ended.Ended.TheVariants as ends
+use Rattle.tool_output.specs.declared.ends.ended.Ended.{Ended}
+use Rattle.tool_output.specs.declared.ends.ended.Ended.TheVariants.{Exit, StepsUsed, Undefined, StackLimit, MemoryLimit, Unresolved, NoMain, CannotRead, CannotWrite, Memory}
+use Rattle.tool_output.specs.declared.ends.ended.Ended.TheVariants as ends
 use Rattle.tool_cli.specs.Causes.{IsStopped}
 use Rattle.tool_cli.specs.Inputs.{input_read, TellsRun}
 use Rattle.tool_cli.specs.Judged.{IsPartRefused}

@@ -5,19 +5,19 @@ use Rattle.ir_base.specs.Files.{Named}
 use Rattle.module_arena.specs.Module.{Module}
 use Rattle.name_rules.specs.Spelled.{spelled_global}
 use Rattle.linkage_rules.specs.Conflicts.{FoundConflict, first_conflict}
-use Rattle.module_linker.specs.Counts.{Count, too_many}
-use Rattle.extract_core.specs.Selected.{no_such_symbol}
+use Rattle.link_rules.specs.Counts.{Count, too_many}
+use Rattle.extract_rules.specs.Selected.{no_such_symbol}
 use Rattle.command_line.specs.declared.command.Command.{Command}
 use Rattle.command_line.specs.declared.command.Command.TheVariants.{Assemble, Disassemble, Link, Extract, Lli, Analyze}
 use Rattle.command_line.specs.declared.command.SelectionWords.{SelectionWords}
 use Rattle.command_line.specs.declared.command.UsageKind.{UsageKind}
 use Rattle.command_line.specs.Faults.{IsFirstFault}
 use Rattle.command_line.specs.Commands.{IsReadAs}
-use Rattle.tool_ends.specs.declared.clash.Clash.{Clash}
-use Rattle.tool_ends.specs.declared.clash.PartName.{PartName}
-use Rattle.tool_ends.specs.declared.ended.Ended.{Ended}
-use Rattle.tool_ends.specs.declared.ended.Ended.TheVariants.{Usage, CannotRead, CannotWrite, InputTooLarge, TooMany, Conflict, NoSuchSymbol, Memory}
-use Rattle.tool_ends.specs.declared.ended.Ended.TheVariants as ends
+use Rattle.tool_output.specs.declared.ends.clash.Clash.{Clash}
+use Rattle.tool_output.specs.declared.ends.clash.PartName.{PartName}
+use Rattle.tool_output.specs.declared.ends.ended.Ended.{Ended}
+use Rattle.tool_output.specs.declared.ends.ended.Ended.TheVariants.{Usage, CannotRead, CannotWrite, InputTooLarge, TooMany, Conflict, NoSuchSymbol, Memory}
+use Rattle.tool_output.specs.declared.ends.ended.Ended.TheVariants as ends
 use Rattle.tool_cli.specs.Inputs.{inputs_of, texts_read}
 use Rattle.tool_cli.specs.Analyzed.{IsAnalysis}
 use Rattle.tool_cli.specs.Judged.{IsBitcodeOf, IsBitcodeRefused, IsTextRefused, IsPartRefused, IsFirstRefusal, AreAccepted}

@@ -8,10 +8,10 @@ ghost use Rattle.tool_cli.specs.Analyzed.{IsAnalysis, IsDumped};
 ghost use Rattle.tool_cli.specs.Told.{IsOfWork};
 
 use bit_dump::{DumpFault, dump};
-use bits::BitFault;
+use bit_stream::bits::BitFault;
 use ir_base::{Sink, Text};
 use std::alloc::Global;
-use tool_ends::Ended;
+use tool_output::ends::Ended;
 
 // The end of a refused field, told with the name of its input.
 fn bit_fault(alloc: Global, name: &Text, fault: BitFault) -> Ended

@@ -11,8 +11,8 @@ use command_line::OutputName;
 use ir_base::{Files, Sink, Text};
 use std::alloc::Global;
 use std::mem::forget;
-use tool_ends::Ended;
 use tool_output::OutputFormat;
+use tool_output::ends::Ended;
 
 /// Writes the bitcode of the text of the input of this name to this place. Bytes that begin as bitcode does are a text like any other, so their
 /// first bad byte is told.

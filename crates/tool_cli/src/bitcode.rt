@@ -12,7 +12,7 @@ use ir_base::Text;
 use module_arena::Checked;
 use path_verify::verify;
 use std::alloc::Global;
-use tool_ends::Ended;
+use tool_output::ends::Ended;
 
 // The refusal of bitcode, told with the name of its input.
 fn bitcode_told(alloc: Global, name: &Text, fault: BitcodeFault) -> Ended

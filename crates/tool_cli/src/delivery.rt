@@ -11,7 +11,7 @@ use command_line::OutputName;
 use ir_base::{Files, Sink};
 use module_arena::Checked;
 use std::alloc::Global;
-use tool_ends::Ended;
+use tool_output::ends::Ended;
 use tool_output::{OutputFault, OutputFormat, write_module};
 
 /// Writes a module in this format to where it goes.

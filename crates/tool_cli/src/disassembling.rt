@@ -11,8 +11,8 @@ use command_line::OutputName;
 use ir_base::{Files, Sink, Text};
 use std::alloc::Global;
 use std::mem::forget;
-use tool_ends::Ended;
 use tool_output::OutputFormat;
+use tool_output::ends::Ended;
 
 /// Writes the canonical text of the module that the bytes of the input of this name spell to this place. Bytes that do not begin as bitcode does spell none.
 pub(crate) fn disassemble<F: Files, O: Sink>(

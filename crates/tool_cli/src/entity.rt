@@ -10,7 +10,7 @@ use ir_base::{Name, Text};
 use module_arena::{Entity, LocalName};
 use name_rules::{spell_global, spell_struct};
 use std::alloc::{AllocError, Global};
-use tool_ends::Digits;
+use tool_output::ends::Digits;
 
 // Adds the digits of a number.
 fn put_number(text: &mut Text, number: u64) -> Result<(), AllocError>

@@ -1,8 +1,8 @@
 //! A part of an input, and what it makes written.
 ghost use Rattle.std.specs.Prelude.{◌≡◌, ◌⊎◌, [], ◌∷◌, None, IfOk, IfErr, OnOk};
 ghost use Rattle.command_line.specs.declared.command.Command.TheVariants as commands;
-ghost use Rattle.extract_core.specs.Extracted.{Extracted};
-ghost use Rattle.extract_core.specs.Selected.{no_such_symbol};
+ghost use Rattle.extract_rules.specs.Extracted.{Extracted};
+ghost use Rattle.extract_rules.specs.Selected.{no_such_symbol};
 ghost use Rattle.module_arena.specs.View.{module_of};
 ghost use Rattle.name_rules.specs.Spelled.{spelled_global};
 ghost use Rattle.tool_cli.specs.Done.{IsDone};
@@ -15,14 +15,14 @@ use crate::delivery::deliver;
 use crate::linking::format_of;
 use crate::parts::{GivenBack, accepted_part};
 use command_line::{OutputName, SelectionWords};
-use extract_core::ExtractFault;
+use extract_core::extract;
+use extract_rules::ExtractFault;
 use ir_base::{Files, Name, NameList, Sink, Text};
 use module_arena::Checked;
-use module_extract::extract;
 use name_rules::spell_global;
 use std::alloc::{AllocError, Global};
 use std::mem::forget;
-use tool_ends::Ended;
+use tool_output::ends::Ended;
 
 // The same names in texts of their own.
 fn copied_names(alloc: Global, names: &[Name]) -> Result<NameList, AllocError>
@@ -39,10 +39,10 @@ fn copied_names(alloc: Global, names: &[Name]) -> Result<NameList, AllocError>
 fn selection_of(
     alloc: Global,
     selection: &SelectionWords,
-) -> Result<extract_core::Selection, AllocError>
+) -> Result<extract_rules::Selection, AllocError>
     ensures { IfOk result (λ copy. copy ≡ selection_of selection.now) }
 {
-    Ok(extract_core::Selection {
+    Ok(extract_rules::Selection {
         functions: copied_names(alloc, selection.functions.as_slice())?,
         variables: copied_names(alloc, selection.variables.as_slice())?,
         aliases: copied_names(alloc, selection.aliases.as_slice())?,

@@ -14,7 +14,7 @@ use command_line::{Command, is_dash};
 use ir_base::{FileFault, Files, ReadFault, Source, Text, TextList, read_all};
 use std::alloc::Global;
 use std::slice;
-use tool_ends::Ended;
+use tool_output::ends::Ended;
 
 /// The most bytes of one input: 16 MiB.
 const LARGEST: usize = ir_lexer::LARGEST;

@@ -4,7 +4,7 @@
 //! process's own streams: what is answered, what is read and what is written, for any source and sink.
 //! Definitions: `specs/Headline` for what linking promises, `specs/Ends` for all else that a run does, over what `specs/World` names: `specs/Told` for the
 //! meaning of an answer, `specs/Made` and `specs/Output` for what is written, `specs/Running` for programs that are run; `specs/Laws` for inputs,
-//! `specs/Ended` of `tool_ends` for the line and the status.
+//! `specs/Ended` of `tool_output::ends` for the line and the status.
 //!
 //! ```
 //! // of the words `llvm-as`, `a.ll`, where the file `a.ll` has `define i32 @main() { ret i32 3 }`
@@ -30,5 +30,5 @@ mod tool_run;
 mod work;
 
 pub use laws::{accepted_is_not_refused, inputs_are_readable};
-pub use tool_ends::{Ended, Report};
+pub use tool_output::ends::{Ended, Report};
 pub use tool_run::{end_without_words, run_tool};

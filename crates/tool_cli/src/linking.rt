@@ -4,8 +4,8 @@ ghost use Rattle.command_line.specs.declared.command.Command.TheVariants as comm
 ghost use Rattle.linkage_rules.specs.Conflicts.{first_conflict};
 ghost use Rattle.module_arena.specs.Module.{Module};
 ghost use Rattle.module_arena.specs.View.{module_of};
-ghost use Rattle.module_link.specs.Faults.{HasFault};
-ghost use Rattle.module_linker.specs.Counts.{too_many};
+ghost use Rattle.module_linker.specs.Faults.{HasFault};
+ghost use Rattle.link_rules.specs.Counts.{too_many};
 ghost use Rattle.tool_cli.specs.Done.{IsDone};
 ghost use Rattle.tool_cli.specs.Judged.{AreShort};
 ghost use Rattle.tool_cli.specs.Made.{LinksTo, format_of};
@@ -18,12 +18,12 @@ use command_line::OutputName;
 use ir_base::{Files, Name, Sink, Text, TextList};
 use linkage_rules::ConflictKind;
 use module_arena::Checked;
-use module_link::LinkFault;
+use module_linker::LinkFault;
 use name_rules::spell_global;
 use std::alloc::{AllocError, Global};
 use std::mem::forget;
-use tool_ends::{Clash, Ended, PartName};
 use tool_output::OutputFormat;
+use tool_output::ends::{Clash, Ended, PartName};
 
 // An input by its number among those of these names.
 fn part_named(alloc: Global, names: &[Text], number: u64) -> Result<PartName, AllocError>
@@ -91,7 +91,7 @@ fn linked(alloc: Global, names: &[Text], texts: TextList) -> Result<Checked, End
     ensures of_texts { IfErr result IsOfTexts }
 {
     let parts = accepted_parts(alloc, names, texts)?;
-    match module_link::link(alloc, parts) {
+    match module_linker::link(alloc, parts) {
         Ok(whole) => {
             // It is well formed and valid, as each module is that was checked.
             let _arena = whole.arena();

@@ -19,6 +19,7 @@ ghost use Rattle.tool_cli.specs.Told.{IsOfTexts};
 
 use crate::bitcode::accepted_bitcode;
 use crate::entity::entity_words;
+use entry_verify::types::VerifyFault;
 use ir_base::{Name, Text, TextList};
 use ir_resolve::resolve;
 use ir_syntax::{Items, SyntaxFault, read_items};
@@ -28,8 +29,7 @@ use path_verify::verify;
 use record_read::each_is_byte;
 use std::alloc::{AllocError, Global};
 use std::mem::forget;
-use tool_ends::Ended;
-use type_verify::VerifyFault;
+use tool_output::ends::Ended;
 
 /// The bytes that bitcode begins with (LLVM Bitcode File Format, "LLVM IR Magic Number").
 const BITCODE_MAGIC: [u8; 4] = [0x42, 0x43, 0xC0, 0xDE];

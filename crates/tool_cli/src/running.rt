@@ -11,14 +11,14 @@ ghost use Rattle.tool_cli.specs.World.{streams};
 use crate::parts::{GivenBack, accepted_part};
 use command_line::is_dash;
 use ir_base::{Failed, Name, Sink, Source, Text, TextList};
+use ir_run::run_module;
 use module_arena::Checked;
 use name_rules::spell_global;
-use run_machine::run_module;
-use run_played::early_ends_are_played;
+use run_rules::played::early_ends_are_played;
 use run_rules::{End, RunFault};
 use std::alloc::Global;
 use std::mem::forget;
-use tool_ends::Ended;
+use tool_output::ends::Ended;
 
 // No input: there is nothing to read, and no read fails.
 #[derive(Drop)]

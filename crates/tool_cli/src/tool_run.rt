@@ -1,7 +1,7 @@
 //! The whole program, over whatever it reads and writes.
 ghost use Rattle.std.specs.Prelude.{◌≡◌, []};
 ghost use Rattle.ir_base.specs.Outside.{Wrote};
-ghost use Rattle.tool_ends.specs.Ended.{line_of, status_of};
+ghost use Rattle.tool_output.specs.Ends.Ended.{line_of, status_of};
 ghost use Rattle.tool_cli.specs.Ends.{EndsAs};
 ghost use Rattle.tool_cli.specs.Headline.{LinkedRunsAsParts};
 ghost use Rattle.tool_cli.specs.Running.{InputRunsAsParts};
@@ -9,13 +9,13 @@ ghost use Rattle.tool_cli.specs.World.{world};
 
 use crate::inputs::{inputs_of, read_inputs};
 use crate::work::work;
-use canon_reads::canon_is_read_back;
+use canonical::reads::canon_is_read_back;
 use command_line::{WordsFault, read_words};
 use ir_base::{Files, Sink, Source, Text};
 use name_rules::one_module;
-use spelled_alone::modules_are_spelled_alone;
+use record_law::alone::modules_are_spelled_alone;
 use std::alloc::Global;
-use tool_ends::{Ended, Report, status_of, tell};
+use tool_output::ends::{Ended, Report, status_of, tell};
 
 // Reads the words, then all inputs, and then does the work.
 fn ended_of<F: Files, I: Source, O: Sink>(

@@ -19,7 +19,7 @@ use crate::running::run_bytes;
 use command_line::Command;
 use ir_base::{Files, Sink, Source, Text, TextList};
 use std::alloc::Global;
-use tool_ends::Ended;
+use tool_output::ends::Ended;
 
 // The first of some texts.
 fn first_text(texts: TextList) -> Text

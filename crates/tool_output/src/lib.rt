@@ -5,12 +5,18 @@
 //! Definitions: `specs/Written` (the bytes of a module), `specs/Outputs` (what outputs
 //! have), `specs/Writing` (what is answered).
 //!
+//! Its modules:
+//!
+//! - `ends`: What a run of a tool ended with: its status, and the one line that tells it on
+//!   standard error.
+//!
 //! ```
 //! write_module(alloc, OutputFormat::CanonicalText, &OutputName::Standard, &checked, &mut files, &mut sink)?;
 //! // the sink has the canonical text of the module now
 //! ```
 #![tactic(auto)]
 
+pub mod ends;
 mod fault;
 mod format;
 mod writing;

@@ -4,14 +4,14 @@ use Rattle.std.proofs.Common.{ap, ◌∙◌, append_assoc}
 use Rattle.std.specs.Global.{Box, Vec}
 use Rattle.ir_base.specs.declared.place.Place.{Place}
 use Rattle.ir_tables.specs.declared.opcode.Opcode.{Opcode}
-use Rattle.ir_constants.specs.declared.constant.Brackets.{Brackets}
-use Rattle.ir_constants.specs.declared.ty.Type as the_type
-use Rattle.ir_constants.specs.declared.constant.Constant as the_constant
-use Rattle.ir_constants.specs.declared.constant.TypedConstant as the_typed
-use Rattle.ir_constants.specs.declared.constant.Constant.TheOpen as open_constant
-use Rattle.ir_constants.specs.declared.constant.Constant.TheFolds.{fold-TypedConstant, fold-roll-Constant, fold_out-TypedConstant}
-use Rattle.ir_constants.specs.Tree.{ConstantTree, ListConstant, ElementAddress, Conversion, Arithmetic, TypedConstantTree, constants}
-use Rattle.ir_constants.specs.View.{constant_step, typed_step, constant_view, type_view, typed_constant_view}
+use Rattle.ir_phrases.specs.declared.constants.constant.Brackets.{Brackets}
+use Rattle.ir_phrases.specs.declared.constants.ty.Type as the_type
+use Rattle.ir_phrases.specs.declared.constants.constant.Constant as the_constant
+use Rattle.ir_phrases.specs.declared.constants.constant.TypedConstant as the_typed
+use Rattle.ir_phrases.specs.declared.constants.constant.Constant.TheOpen as open_constant
+use Rattle.ir_phrases.specs.declared.constants.constant.Constant.TheFolds.{fold-TypedConstant, fold-roll-Constant, fold_out-TypedConstant}
+use Rattle.ir_phrases.specs.Constants.Tree.{ConstantTree, ListConstant, ElementAddress, Conversion, Arithmetic, TypedConstantTree, constants}
+use Rattle.ir_phrases.specs.Constants.View.{constant_step, typed_step, constant_view, type_view, typed_constant_view}
 use Rattle.name_rules.specs.TypeDemands.{Known, type_demands, constant_demands, constants_demands}
 use Rattle.name_rules.specs.Written.{type_in}
 use Rattle.type_judge.specs.Judging.{typed_demands}

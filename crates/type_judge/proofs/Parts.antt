@@ -4,7 +4,7 @@ use Rattle.std.proofs.Common.{ap, sym, subst, ◌∙◌, get_or, drop}
 use Rattle.std.proofs.lemmas.List.{drop_more, drop_all}
 use Rattle.name_rules.specs.declared.fault.ResolveFault.{ResolveFault}
 use Rattle.ir_terminals.specs.declared.values.Integer.{Integer}
-use Rattle.ir_constants.specs.Tree.{TypeTree, TypeTrees, ArrayType, StructType, types}
+use Rattle.ir_phrases.specs.Constants.Tree.{TypeTree, TypeTrees, ArrayType, StructType, types}
 use Rattle.ir_base.specs.declared.place.Place.{Place}
 use Rattle.type_table.specs.declared.measure.Measure.{Measure}
 use Rattle.name_rules.specs.Demand.{Demand, nests, is_small, is_length}

@@ -3,12 +3,12 @@ use Rattle.std.specs.Prelude.{◌≡◌, Bool, map}
 use Rattle.std.proofs.Common.{ap, ◌∙◌}
 use Rattle.std.specs.Global.{Box, Vec}
 use Rattle.ir_base.specs.declared.place.Place.{Place}
-use Rattle.ir_constants.specs.declared.ty.Type as the_type
-use Rattle.ir_constants.specs.declared.ty.ArrayType as the_array
-use Rattle.ir_constants.specs.declared.ty.Type.TheOpen as open_type
-use Rattle.ir_constants.specs.declared.ty.Type.TheFolds.{fold-roll-Type, fold_out-ArrayType}
-use Rattle.ir_constants.specs.Tree.{TypeTree, ArrayType, StructType, types}
-use Rattle.ir_constants.specs.View.{ArrayParts, type_step, array_step, type_view}
+use Rattle.ir_phrases.specs.declared.constants.ty.Type as the_type
+use Rattle.ir_phrases.specs.declared.constants.ty.ArrayType as the_array
+use Rattle.ir_phrases.specs.declared.constants.ty.Type.TheOpen as open_type
+use Rattle.ir_phrases.specs.declared.constants.ty.Type.TheFolds.{fold-roll-Type, fold_out-ArrayType}
+use Rattle.ir_phrases.specs.Constants.Tree.{TypeTree, ArrayType, StructType, types}
+use Rattle.ir_phrases.specs.Constants.View.{ArrayParts, type_step, array_step, type_view}
 
 pub array_shape : (place : Place) (array : Box the_array.ArrayType) → type_view (the_type.Array place array) ≡ ArrayType place array.value.count (type_view array.value.element)
 unfolding the_type.roll-Type denote.Hole.Carrier.roll

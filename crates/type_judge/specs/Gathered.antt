@@ -9,7 +9,7 @@ use Rattle.name_rules.specs.Breaks.{known_in}
 pub use Rattle.name_rules.specs.Breaks.{global_names}
 use Rattle.name_rules.specs.ModuleOf.{structs_in}
 use Rattle.name_rules.specs.TypeDemands.{Known, has_name}
-use Rattle.struct_order.specs.Measuring.{AreMeasured, structs_of}
+use Rattle.type_judge.specs.Order.Measuring.{AreMeasured, structs_of}
 use Rattle.type_judge.specs.declared.known.Known as the_known
 use Rattle.type_judge.specs.declared.known.GlobalNames.{GlobalNames}
 

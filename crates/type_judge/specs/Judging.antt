@@ -4,7 +4,7 @@ use Rattle.name_rules.specs.declared.fault.ResolveFault.{ResolveFault}
 use Rattle.name_rules.specs.Demand.{Demand, Judged}
 use Rattle.name_rules.specs.TypeDemands.{Known, type_demands, constant_demands}
 use Rattle.name_rules.specs.Written.{type_in}
-use Rattle.ir_constants.specs.Tree.{TypedConstantTree}
+use Rattle.ir_phrases.specs.Constants.Tree.{TypedConstantTree}
 
 -- it is Ok exactly where each holds, and else tells the refusal of the first that does not; want of memory says nothing
 pub record IsJudged (demands : List Demand) (answer : Result (Unit {0}) ResolveFault) : Type 0 where

@@ -1,2 +1,4 @@
 pub mod Judging
 pub mod Gathered
+pub mod Order
+pub mod Ends

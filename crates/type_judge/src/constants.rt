@@ -2,8 +2,8 @@
 #![tactic(auto, using(crate::proofs::Parts::judged_front, crate::proofs::Parts::judged_rest, crate::proofs::Parts::judged_stop, crate::proofs::Parts::judged_next))]
 
 ghost use Rattle.std.specs.Prelude.{◌≡◌, map};
-ghost use Rattle.ir_constants.specs.Tree.{constants};
-ghost use Rattle.ir_constants.specs.View.{type_view, constant_view, typed_constant_view};
+ghost use Rattle.ir_phrases.specs.Constants.Tree.{constants};
+ghost use Rattle.ir_phrases.specs.Constants.View.{type_view, constant_view, typed_constant_view};
 ghost use Rattle.name_rules.specs.TypeDemands.{constant_demands, constants_demands};
 ghost use Rattle.name_rules.specs.Written.{type_in, bits_at};
 ghost use Rattle.type_judge.specs.Gathered.{IsKnown, known_of};
@@ -13,7 +13,7 @@ use crate::globals::check_global;
 use crate::integers::check_integer;
 use crate::known::Known;
 use crate::types::check_type;
-use ir_constants::{Constant, Type, TypedConstant};
+use ir_phrases::constants::{Constant, Type, TypedConstant};
 use ir_tables::WIDEST;
 use name_rules::ResolveFault;
 use std::alloc::Global;

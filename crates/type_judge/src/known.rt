@@ -4,7 +4,7 @@
 
 ghost use Rattle.std.specs.Prelude.{◌≡◌, ◌<◌, ◌^◌, length, IfOk, OnOk, List, ℕ, [], ◌∷◌, ◌++◌, bytes_eq, option_copied};
 ghost use Rattle.ir_tables.specs.Table.{is_distinct};
-ghost use Rattle.ir_constants.specs.View.{type_view};
+ghost use Rattle.ir_phrases.specs.Constants.View.{type_view};
 ghost use Rattle.ir_syntax.specs.View.{item_view, items_view};
 ghost use Rattle.name_rules.specs.Breaks.{known_in, global_name};
 ghost use Rattle.name_rules.specs.Measured.{names_of};
@@ -12,12 +12,12 @@ ghost use Rattle.name_rules.specs.ModuleOf.{structs_in};
 ghost use Rattle.name_rules.specs.TypeDemands.{has_name, measured};
 ghost use Rattle.type_judge.specs.Gathered.{AreGlobals, IsKnown, global_names, known_of};
 
+use crate::order::StructMeasures;
 use indexmap::IndexSet;
-use ir_constants::Type;
+use ir_phrases::constants::Type;
 use ir_syntax::{Item, Items};
 use ir_terminals::PlacedName;
 use std::alloc::{AllocError, Global};
-use struct_order::StructMeasures;
 use type_table::Measure;
 
 /// The names of variables, aliases and functions, and whether no two of them are the same.

@@ -1,10 +1,16 @@
 //! Judges the types, the constants and the names of a text: tells the first demand, in the order of the text, that does not
 //! hold.
 //!
-//! It stands on the rules of `name_rules`, on the measures of structs of `struct_order` and the sets of `indexmap`. It
+//! It stands on the rules of `name_rules`, on the measures of structs of `type_judge::order` and the sets of `indexmap`. It
 //! promises, want of memory aside, that an answer is Ok exactly where each demand holds, and else the refusal of the first that
 //! does not.
 //! Definitions: `specs/Judging`; the demands are those of `name_rules`, `specs/TypeDemands`.
+//!
+//! Its modules:
+//!
+//! - `order`: Puts the structs of a text into an order in which each stands behind those that its
+//!   fields name.
+//! - `ends`: Tells which structs of a text contain themselves by value.
 //!
 //! ```
 //! let items = read_items(alloc, b"@a = global ptr @b")?;
@@ -17,9 +23,11 @@
 
 mod asking;
 mod constants;
+pub mod ends;
 mod globals;
 mod integers;
 mod known;
+pub mod order;
 mod types;
 
 pub use asking::ask;

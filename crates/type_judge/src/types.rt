@@ -2,8 +2,8 @@
 #![tactic(auto, using(crate::proofs::Parts::judged_front, crate::proofs::Parts::judged_rest, crate::proofs::Parts::judged_stop, crate::proofs::Parts::judged_next))]
 
 ghost use Rattle.std.specs.Prelude.{◌≡◌, [], ◌∷◌, ◌||◌, not, map};
-ghost use Rattle.ir_constants.specs.Tree.{types};
-ghost use Rattle.ir_constants.specs.View.{type_view};
+ghost use Rattle.ir_phrases.specs.Constants.Tree.{types};
+ghost use Rattle.ir_phrases.specs.Constants.View.{type_view};
 ghost use Rattle.name_rules.specs.Demand.{nests, is_small, is_large, is_deep};
 ghost use Rattle.name_rules.specs.TypeDemands.{measured, is_long, is_past, has_past, have_past, is_struct, type_demands, types_demands, struct_measured};
 ghost use Rattle.type_judge.specs.Gathered.{IsKnown, known_of};
@@ -13,7 +13,7 @@ use crate::asking::ask;
 use crate::integers::check_length;
 use crate::known::Known;
 use ir_base::Place;
-use ir_constants::Type;
+use ir_phrases::constants::Type;
 use ir_terminals::{Integer, PlacedName};
 use name_rules::{ResolveFault, spell_struct};
 use std::alloc::Global;

@@ -21,3 +21,4 @@ pub mod Giving
 pub mod Putting
 pub mod Reading
 pub mod Waiting
+pub mod OnArena

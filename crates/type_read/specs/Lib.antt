@@ -1,3 +1,4 @@
 pub mod Fields
 pub mod Listed
 pub mod Pending
+pub mod Arena

@@ -5,6 +5,11 @@
 //! whose records stand behind them. Definitions: `TypeRecords` of `record_table`, `specs/Listed`
 //! and `specs/Pending`.
 //!
+//! Its modules:
+//!
+//! - `arena`: An arena in the making, and what indices of records stand for in it: types, entries,
+//!   locals and blocks, and the constants that hold no others.
+//!
 //! ```
 //! // in a block of types whose records are INT 32 and ARRAY 2 0
 //! let ahead = gather_types(&mut reader, alloc, &texts, &mut arena)?; // no structs
@@ -13,6 +18,7 @@
 //! ```
 #![tactic(auto)]
 
+pub mod arena;
 mod definition;
 mod listing;
 mod pending;

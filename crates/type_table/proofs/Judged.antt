@@ -12,7 +12,7 @@ use Rattle.type_table.specs.Kept.{IsSmall, HasSmallSize, HasLargeSize, IsLarge, 
 use Rattle.type_table.specs.Layout.{has_layout, size, align, leaves}
 use Rattle.type_table.specs.Limits.{IsTooDeep, IsTooLarge, IsWithinLimits, Fits, IsWithin, array_length, all_shapes, SomeContainsItself}
 use Rattle.type_table.specs.Measures.{measure, opaque_measure, tree_measure, Measures, measure_of}
-use Rattle.type_table.specs.Shape.{Label, Shape, int_leaf, ptr_leaf, void_leaf, opaque_leaf, array_of, struct_of, Shapes, expanded, all_expanded, body_shape, name_shape, nesting, parts}
+use Rattle.type_table.specs.Shape.{Label, Shape, int_leaf, ptr_leaf, void_leaf, opaque_leaf, array_of, struct_of, expanded, all_expanded, body_shape, name_shape, nesting, parts}
 use Rattle.type_table.specs.Shape as shapes
 use Rattle.type_table.specs.Tree.{Tree, int, ptr, void, array, struct, named, TreeBody, opaque_body, fields, body_of}
 use Rattle.type_table.specs.Types.{Types, AllKnown, names, trees, structs, grow, tree_of}

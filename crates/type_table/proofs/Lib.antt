@@ -23,3 +23,4 @@ pub mod UnderIds
 pub mod Unheld
 pub mod Walked
 pub mod Wide
+pub mod OnNames

@@ -9,3 +9,4 @@ pub mod Outline
 pub mod Shape
 pub mod Tree
 pub mod Types
+pub mod Names

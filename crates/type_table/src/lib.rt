@@ -5,6 +5,11 @@
 //! on nesting, parts and size, and that a change is refused exactly where it would make one so.
 //! Definitions: `specs/Tree`, `Shape`, `Layout`, `Contains`, `Limits`, `Types`, `Measures` and `Keys`.
 //!
+//! Its modules:
+//!
+//! - `names`: What the names of a text stand for: a table from names, which are borrowed from the
+//!   items, to values.
+//!
 //! ```
 //! let mut table = TypeTable::new(alloc);
 //! let byte = table.add(IrType::Int(8))?;
@@ -23,6 +28,7 @@ mod ids;
 mod ir_type;
 mod layout;
 mod measure;
+pub mod names;
 mod outline;
 mod settle;
 mod structs;

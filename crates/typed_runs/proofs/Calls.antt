@@ -24,7 +24,7 @@ use Rattle.run_rules.specs.State.{Frame, Due, Core, Next, Goes, Gets, Stops, wei
 use Rattle.typed_runs.specs.Actions.{Typing, AreArguments}
 use Rattle.typed_runs.specs.Kinds.{IsOf, kinds_of, kinds_of_all}
 use Rattle.typed_runs.specs.States.{IsTypedMemory, IsLater, IsTypedCallee, IsTypedFrame, AreTaken, AreTypedFrames, AreTypedDue, IsTypedCore}
-use Rattle.run_places.specs.Places.{IsFunctionOf, HasWork}
+use Rattle.run_rules.specs.Places.Places.{IsFunctionOf, HasWork}
 use Rattle.typed_runs.proofs.Access.{AreBytes, released_typed}
 use Rattle.typed_runs.proofs.Frames.{frames_more, due_more, handed_typed, handed_weight}
 use Rattle.typed_runs.proofs.Hosts.{IsTypedAnswer, host_typed, signature_exact}

@@ -11,3 +11,10 @@ pub mod Acts
 pub mod Steps
 pub mod Lives
 pub mod Opening
+pub mod OnLook
+pub mod OnTypes
+pub mod OnAction
+pub mod OnEdge
+pub mod OnBody
+pub mod OnPlan
+pub mod OnModules

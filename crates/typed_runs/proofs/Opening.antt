@@ -28,7 +28,7 @@ use Rattle.typed_runs.specs.Actions.{Typing}
 use Rattle.typed_runs.specs.Kinds.{IsOf}
 use Rattle.typed_runs.specs.Plans.{IsTypedMain, IsTypedPlan, AreWords}
 use Rattle.typed_runs.specs.States.{IsTypedMemory, AreStored, IsTypedDue, AreTypedDue, IsTypedCore, IsTypedState}
-use Rattle.run_places.specs.Places.{IsTrueMain, HasWork}
+use Rattle.run_rules.specs.Places.Places.{IsTrueMain, HasWork}
 use Rattle.typed_runs.proofs.Access.{stored_slots_typed, as_before_typed, stored_more}
 use Rattle.typed_runs.proofs.Lives.{strings_live}
 use Rattle.typed_runs.proofs.Memory.{IsKeptTyped, nothing_done, then_done, added_typed}

@@ -28,8 +28,8 @@ use Rattle.run_rules.specs.Step.{Step, GoesOn, IsOver, carried, took, got, then_
 use Rattle.typed_runs.specs.Actions.{Typing}
 use Rattle.typed_runs.specs.Kinds.{IsOf, kinds_of_all}
 use Rattle.typed_runs.specs.States.{IsTypedProgram, IsTypedCallee, AreTaken, AreTypedFrames, AreTypedDue, IsTypedDue, IsTypedCore, IsTypedState, IsTypedStep}
-use Rattle.run_places.specs.Places.{IsTrueMain, IsFunctionOf, IsBefore, HasWork}
-use Rattle.run_places.proofs.Connected.{HasFrame}
+use Rattle.run_rules.specs.Places.Places.{IsTrueMain, IsFunctionOf, IsBefore, HasWork}
+use Rattle.run_rules.proofs.OnPlaces.Connected.{HasFrame}
 use Rattle.typed_runs.proofs.Access.{AreBytes}
 use Rattle.typed_runs.proofs.Acts.{act_typed}
 use Rattle.typed_runs.proofs.Calls.{AreParts, parts_of, whole, parts_handed, begun_typed, IsTypedNext}

@@ -3,3 +3,10 @@ pub mod Actions
 pub mod States
 pub mod Plans
 pub mod Laws
+pub mod Look
+pub mod Types
+pub mod Action
+pub mod Edge
+pub mod Body
+pub mod Plan
+pub mod Modules

@@ -6,12 +6,12 @@ use Rattle.ir_memory.specs.Given.{IsAlignment}
 use Rattle.run_rules.specs.Action.{Action}
 use Rattle.run_rules.specs.Calls.{Callee}
 use Rattle.run_rules.specs.Look.{look, table}
-use Rattle.run_rules.specs.Plan.{Plan, plan}
+use Rattle.run_rules.specs.Plan.{Plan}
 use Rattle.run_rules.specs.Plan as plans
 use Rattle.typed_runs.specs.Actions.{Typing}
 use Rattle.typed_runs.specs.States.{AreStored}
 use Rattle.run_rules.specs.Due.{plain_main, main_with_arguments}
-use Rattle.run_places.specs.Places.{IsFunctionOf}
+use Rattle.run_rules.specs.Places.Places.{IsFunctionOf}
 
 -- main has the type that it is called with
 abbrev pub IsTypedMain : Typing → (ℕ → ℕ → ℕ → Action) → (ℕ → Callee) → ℕ → Bool → Type 0

@@ -18,7 +18,7 @@ use Rattle.run_rules.specs.Look.{no_names}
 use Rattle.run_rules.specs.Resolve.{signature_in}
 use Rattle.run_rules.specs.State.{Frame, Due, Constructor, Main, MainWith, Core, State, weights, weight_limit}
 use Rattle.run_rules.specs.Step.{Step, GoesOn, IsOver}
-use Rattle.run_places.specs.Places.{IsTrueMain, IsBefore, HasWork}
+use Rattle.run_rules.specs.Places.Places.{IsTrueMain, IsBefore, HasWork}
 use Rattle.typed_runs.specs.Actions.{Typing, IsPlace, IsTypedAction}
 use Rattle.typed_runs.specs.Kinds.{IsOf, AreAt, kinds_of, kinds_of_all}
 

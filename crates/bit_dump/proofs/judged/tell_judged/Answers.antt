@@ -1,5 +1,5 @@
 use Rattle.std.proofs.Common.{◌≡◌, ℕ, suc, length, inr, refl, ap, subst, ◌∙◌, arith}
-use Rattle.bit_walk.specs.Walker.{piece_of}
+use Rattle.bit_dump.specs.Walk.Walker.{piece_of}
 use Rattle.std.proofs.lemmas.Result.{err_from_is_err_and}
 use Rattle.bit_dump.specs.Dumped.{Counted}
 use Rattle.bit_dump.proofs.Telling.{begins, goes_on, wants_more, halts, closes}

@@ -1,6 +1,6 @@
 use Rattle.std.proofs.Common.{ℕ, List, refl, ap, ◌∙◌}
 use Rattle.std.proofs.lemmas.Result.{err_from_is_err_and}
-use Rattle.bit_walk.specs.Walker.{Walker}
+use Rattle.bit_dump.specs.Walk.Walker.{Walker}
 use Rattle.bit_dump.specs.Text.{operand_text}
 use Rattle.bit_dump.specs.Outline.{after_operand, after_operands}
 use Rattle.bit_dump.proofs.Telling.{text_more, wants, tried_longer, operands_step, operands_text, operands_over}

@@ -1,5 +1,5 @@
 use Rattle.std.proofs.Common.{sym, ap, ◌∙◌}
-use Rattle.bit_walk.specs.Walker.{Walker}
+use Rattle.bit_dump.specs.Walk.Walker.{Walker}
 use Rattle.bit_dump.proofs.Told.{operands_untold}
 use Rattle.bit_dump.proofs.Telling.{whole_is, where_ok}
 use Rattle.bit_dump.proofs.pieces.tell_values.Goals as goal

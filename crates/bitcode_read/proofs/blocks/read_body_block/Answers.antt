@@ -1,6 +1,6 @@
 use Rattle.std.proofs.Common.{◌≡◌, length, slice_get, sym, ap, subst, ◌∙◌, arith}
 use Rattle.record_read.specs.Faults.{IsMisplaced}
-use Rattle.module_order.specs.Due.{due_at}
+use Rattle.record_read.specs.Order.Due.{due_at}
 use Rattle.bitcode_read.proofs.BodyBlocks.{none_due}
 use Rattle.bitcode_read.proofs.Numbers.{due_there}
 use Rattle.bitcode_read.proofs.blocks.read_body_block.Goals as goal

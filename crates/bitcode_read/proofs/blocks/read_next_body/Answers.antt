@@ -2,7 +2,7 @@ use Rattle.std.proofs.Common.{refl, sym, ◌∙◌}
 use Rattle.std.specs.Prelude.{Ok, Err}
 use Rattle.std.proofs.lemmas.Result.{err_from_is_err_and}
 use Rattle.record_table.specs.Bodies.{at_first}
-use Rattle.opening_read.proofs.Answering.{out_of_memory}
+use Rattle.record_read.proofs.OnOpening.Answering.{out_of_memory}
 use Rattle.bitcode_read.proofs.BodyAnswers.{body_answers, body_refused, count_here}
 use Rattle.bitcode_read.proofs.blocks.read_next_body.Goals as goal
 

@@ -4,7 +4,7 @@ use Rattle.module_arena.specs.Lists.{Lists}
 use Rattle.record_table.specs.TypeRecords.{names_in}
 use Rattle.record_read.specs.Fields.{texts_of}
 use Rattle.type_read.specs.Listed.{AreGathered}
-use Rattle.opening_read.proofs.Answering.{out_of_memory}
+use Rattle.record_read.proofs.OnOpening.Answering.{out_of_memory}
 use Rattle.bitcode_read.proofs.Types.{early}
 use Rattle.bitcode_read.proofs.TypesAnswers.{names_of_gathered, types_answers, types_refused}
 use Rattle.bitcode_read.proofs.blocks.read_types_block.Goals as goal

@@ -3,7 +3,7 @@ use Rattle.std.specs.Prelude.{Ok}
 use Rattle.std.proofs.lemmas.Result.{err_from_is_err_and}
 use Rattle.record_table.specs.Faults.{records}
 use Rattle.record_read.specs.Fields.{texts_of}
-use Rattle.head_read.specs.Ahead.{first_module}
+use Rattle.bitcode_read.specs.Head.Ahead.{first_module}
 use Rattle.bitcode_read.specs.Sofar.{GoesOn}
 use Rattle.bitcode_read.proofs.module.read_entries.Goals as goal
 

@@ -3,7 +3,7 @@ use Rattle.bit_tree.specs.Pieces.{Piece}
 use Rattle.bit_tree.specs.Stream.{Stream, StreamTree}
 use Rattle.record_table.specs.Faults.{records}
 use Rattle.record_read.specs.Fields.{texts_of}
-use Rattle.head_read.specs.Ahead.{first_module}
+use Rattle.bitcode_read.specs.Head.Ahead.{first_module}
 use Rattle.bitcode_read.specs.Sofar.{HasRoom, IsGoing}
 use Rattle.bitcode_read.proofs.module.read_entries.Given as goal
 

@@ -4,8 +4,8 @@ use Rattle.std.proofs.lemmas.Result.{err_from_is_err_and}
 use Rattle.record_table.specs.Faults.{records}
 use Rattle.record_read.specs.declared.entry.NextEntry.TheVariants.{Block, Record, End}
 use Rattle.record_read.specs.Fields.{texts_of}
-use Rattle.head_read.specs.Ahead.{first_module}
-use Rattle.opening_read.proofs.Answering.{gone, out_of_memory}
+use Rattle.bitcode_read.specs.Head.Ahead.{first_module}
+use Rattle.record_read.proofs.OnOpening.Answering.{gone, out_of_memory}
 use Rattle.bitcode_read.proofs.Loop.{block_goes, block_nearer, end_goes, end_is_last, in_block, may_be_types, never_both, ok_first, ok_second, on_more, record_given_at, record_goes, record_nearer}
 use Rattle.bitcode_read.proofs.module.read_entry.Goals as goal
 

@@ -4,7 +4,7 @@ use Rattle.bit_tree.specs.Stream.{StreamTree}
 use Rattle.bit_tree.proofs.OneTree.{one_tree}
 use Rattle.record_table.specs.Faults.{records}
 use Rattle.record_read.specs.Fields.{texts_of}
-use Rattle.head_read.specs.Ahead.{IsAhead, first_module}
+use Rattle.bitcode_read.specs.Head.Ahead.{IsAhead, first_module}
 use Rattle.bitcode_read.specs.Sofar.{numbers_from}
 use Rattle.bitcode_read.proofs.Loop.{goes_begin, goes_refused, when_ok}
 use Rattle.bitcode_read.proofs.module.read_module.Goals as goal

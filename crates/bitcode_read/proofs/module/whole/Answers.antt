@@ -1,7 +1,7 @@
 use Rattle.std.proofs.Common.{◌≡◌, ◌≤◌, Bool, List, length, sym, ap, subst, ◌∙◌, arith}
 use Rattle.std.specs.Prelude.{is_some}
 use Rattle.std.proofs.lemmas.Result.{err_from_is_err_and}
-use Rattle.module_order.specs.Due.{due_at}
+use Rattle.record_read.specs.Order.Due.{due_at}
 use Rattle.bitcode_read.proofs.TypesAnswers.{texts_held}
 use Rattle.bitcode_read.proofs.Whole.{due_told, end_answers, end_refused}
 use Rattle.bitcode_read.proofs.module.whole.Goals as goal

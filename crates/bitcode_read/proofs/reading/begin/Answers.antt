@@ -1,5 +1,5 @@
 use Rattle.std.proofs.Common.{refl, subst}
-use Rattle.arena_read.specs.Growing.{IsOver}
+use Rattle.type_read.specs.Arena.Growing.{IsOver}
 use Rattle.module_arena.specs.Lists.{Lists}
 use Rattle.bitcode_read.proofs.reading.begin.Goals as goal
 

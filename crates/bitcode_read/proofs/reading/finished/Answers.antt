@@ -1,7 +1,7 @@
 use Rattle.std.proofs.Common.{ℕ, Bool, List, Option, length, refl, sym, ap, subst, ◌∙◌}
 use Rattle.module_arena.specs.declared.entry.GlobalId.{GlobalId}
 use Rattle.module_arena.specs.Lists.{Lists}
-use Rattle.holding_set.specs.Holding.{HasConstants, HasTargets, Suits, targeted_by}
+use Rattle.bitcode_read.specs.Holding.Holding.{HasConstants, HasTargets, Suits, targeted_by}
 use Rattle.bitcode_read.specs.Sofar.{AreSettable}
 use Rattle.bitcode_read.proofs.Setting.{bodies_set, initialisers_set, made_is, still_constants, still_suits, still_undefined, still_unset, targets_set}
 use Rattle.bitcode_read.proofs.reading.finished.Goals as goal

@@ -5,7 +5,7 @@ use Rattle.module_arena.specs.Module.{Module}
 use Rattle.record_table.specs.Faults.{records}
 use Rattle.record_table.specs.Records.{read}
 use Rattle.record_read.specs.Reader.{Reader}
-use Rattle.opening_read.proofs.Answering.{out_of_memory}
+use Rattle.record_read.proofs.OnOpening.Answering.{out_of_memory}
 use Rattle.bitcode_read.specs.Answers.{IsModule}
 use Rattle.bitcode_read.proofs.Judged.{before_block, block_begun, block_refused, block_settable, stream_read}
 use Rattle.bitcode_read.proofs.reading.read_opened.Goals as goal

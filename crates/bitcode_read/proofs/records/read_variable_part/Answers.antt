@@ -4,8 +4,8 @@ use Rattle.std.proofs.lemmas.Result.{err_from_is_err_and}
 use Rattle.record_table.specs.Faults.{a_record}
 use Rattle.record_table.specs.Layout.{judged}
 use Rattle.record_table.specs.Records as records
-use Rattle.opening_read.proofs.Answering.{out_of_memory}
-use Rattle.entry_read.specs.Entries.{ReadsVariable}
+use Rattle.record_read.proofs.OnOpening.Answering.{out_of_memory}
+use Rattle.bitcode_read.specs.Entry.Entries.{ReadsVariable}
 use Rattle.bitcode_read.proofs.Earlies.{answers_on}
 use Rattle.bitcode_read.proofs.Entries.{in_front, variable_new, variable_sofar, variables_count}
 use Rattle.bitcode_read.proofs.Opened.{refused_so}

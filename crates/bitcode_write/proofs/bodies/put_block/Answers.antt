@@ -4,8 +4,8 @@ use Rattle.bitcode_write.proofs.Lined.{lines_as, lines_same, lines_then}
 use Rattle.ir_tables.specs.Opcode.{opcode_code}
 use Rattle.ir_tables.specs.declared.opcode.Opcode.{Opcode}
 use Rattle.module_arena.specs.View.{local_view}
-use Rattle.line_write.specs.Lines.{ending_of, instruction_of}
-use Rattle.operand_write.specs.Numbered.{inside, texts}
+use Rattle.bitcode_write.specs.Lines.Lines.{ending_of, instruction_of}
+use Rattle.record_write.specs.Operands.Numbered.{inside, texts}
 use Rattle.record_table.specs.Fields.{label}
 use Rattle.record_table.specs.Spelling.{Line, ending_line, instruction_line}
 use Rattle.module_arena.specs.declared.instruction.Inst.{Inst}

@@ -1,7 +1,7 @@
 use Rattle.std.proofs.Common.{List, flat_map, map, refl, subst, sym}
 use Rattle.bitcode_write.proofs.Lined.{things_end, things_more}
 use Rattle.bitcode_write.specs.Entries.{IsBlock, block_of}
-use Rattle.operand_write.specs.Numbered.{inside, texts}
+use Rattle.record_write.specs.Operands.Numbered.{inside, texts}
 use Rattle.record_table.specs.Spelling.{block_lines}
 use Rattle.module_arena.specs.declared.entry.Block.{Block}
 use Rattle.bitcode_write.proofs.bodies.put_blocks.Goals as goal

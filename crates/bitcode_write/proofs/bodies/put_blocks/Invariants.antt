@@ -2,9 +2,8 @@ use Rattle.std.proofs.Common.{[], drop, flat_map, map, ◌≡◌}
 use Rattle.bit_stream.specs.Writer.{Writer}
 use Rattle.bitcode_write.specs.Entries.{block_of}
 use Rattle.bitcode_write.specs.Put.{IsOpen, PutsLines}
-use Rattle.operand_write.specs.Numbered.{inside, texts}
+use Rattle.record_write.specs.Operands.Numbered.{inside, texts}
 use Rattle.record_table.specs.Spelling.{block_lines}
-use Rattle.module_arena.specs.declared.entry.Block.{Block}
 use Rattle.bitcode_write.proofs.bodies.put_blocks.Given as goal
 
 -- who writes the rest from here on has written them all

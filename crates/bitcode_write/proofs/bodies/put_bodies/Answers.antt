@@ -5,7 +5,7 @@ use Rattle.bitcode_write.proofs.Lined.{bodies_end, bodies_more}
 use Rattle.bitcode_write.specs.Entries.{IsBlock, function_of}
 use Rattle.module_arena.specs.Known.{IsGood, KnowsFunction}
 use Rattle.module_arena.specs.Lists.{Lists, function_blocks}
-use Rattle.operand_write.specs.Numbered.{indices, texts}
+use Rattle.record_write.specs.Operands.Numbered.{indices, texts}
 use Rattle.record_table.specs.Spelling.{body_of}
 use Rattle.module_arena.specs.declared.entry.Function.{Function}
 use Rattle.module_arena.specs.Module as m

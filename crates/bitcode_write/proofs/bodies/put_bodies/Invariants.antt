@@ -3,7 +3,7 @@ use Rattle.bit_stream.specs.Writer.{Writer}
 use Rattle.bit_tree.specs.Written.{no_more}
 use Rattle.bitcode_write.specs.Entries.{function_of}
 use Rattle.bitcode_write.specs.Put.{IsOpen, Puts}
-use Rattle.operand_write.specs.Numbered.{indices, texts}
+use Rattle.record_write.specs.Operands.Numbered.{indices, texts}
 use Rattle.record_table.specs.Spelling.{body_of, put_bodies}
 use Rattle.bitcode_write.proofs.bodies.put_bodies.Given as goal
 

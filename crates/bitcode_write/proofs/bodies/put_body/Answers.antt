@@ -6,7 +6,7 @@ use Rattle.bitcode_write.proofs.Viewed.{blocks_are, own_lines, own_names}
 use Rattle.bitcode_write.specs.Entries.{IsBlock, block_of}
 use Rattle.bitcode_write.specs.Put.{Puts, PutsLines}
 use Rattle.module_arena.specs.View.{local_view}
-use Rattle.operand_write.specs.Numbered.{inside, texts}
+use Rattle.record_write.specs.Operands.Numbered.{inside, texts}
 use Rattle.record_table.specs.Fields.{label}
 use Rattle.record_table.specs.Spelling.{Line, block_lines, put, put_bodies}
 use Rattle.type_table.specs.Types.{names}

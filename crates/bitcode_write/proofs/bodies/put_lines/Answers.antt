@@ -1,8 +1,8 @@
 use Rattle.std.proofs.Common.{List, [], map, refl, subst, sym, ◌∷◌}
 use Rattle.bitcode_write.proofs.Lined.{things_end, things_more}
-use Rattle.line_write.specs.Ids.{KnowsLine}
-use Rattle.line_write.specs.Lines.{IsLine, instruction_of}
-use Rattle.operand_write.specs.Numbered.{inside, texts}
+use Rattle.bitcode_write.specs.Lines.Ids.{KnowsLine}
+use Rattle.bitcode_write.specs.Lines.Lines.{IsLine, instruction_of}
+use Rattle.record_write.specs.Operands.Numbered.{inside, texts}
 use Rattle.record_table.specs.Spelling.{instruction_line}
 use Rattle.module_arena.specs.declared.instruction.Inst.{Inst}
 use Rattle.bitcode_write.proofs.bodies.put_lines.Goals as goal

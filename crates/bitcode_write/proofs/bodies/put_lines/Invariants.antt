@@ -1,10 +1,9 @@
 use Rattle.std.proofs.Common.{[], drop, map, ◌≡◌}
 use Rattle.bit_stream.specs.Writer.{Writer}
 use Rattle.bitcode_write.specs.Put.{IsOpen, PutsLines}
-use Rattle.line_write.specs.Lines.{instruction_of}
-use Rattle.operand_write.specs.Numbered.{inside, texts}
+use Rattle.bitcode_write.specs.Lines.Lines.{instruction_of}
+use Rattle.record_write.specs.Operands.Numbered.{inside, texts}
 use Rattle.record_table.specs.Spelling.{instruction_line}
-use Rattle.module_arena.specs.declared.instruction.Inst.{Inst}
 use Rattle.bitcode_write.proofs.bodies.put_lines.Given as goal
 
 -- who writes the rest from here on has written them all

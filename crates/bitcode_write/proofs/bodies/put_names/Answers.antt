@@ -1,7 +1,7 @@
 use Rattle.std.proofs.Common.{List, flat_map, map, refl}
 use Rattle.bitcode_write.proofs.Chain.{part_end, part_more}
 use Rattle.module_arena.specs.View.{local_view}
-use Rattle.operand_write.specs.Numbered.{texts}
+use Rattle.record_write.specs.Operands.Numbered.{texts}
 use Rattle.record_table.specs.Fields.{label}
 use Rattle.module_arena.specs.declared.entry.Parameter.{Parameter}
 use Rattle.bitcode_write.proofs.bodies.put_names.Goals as goal

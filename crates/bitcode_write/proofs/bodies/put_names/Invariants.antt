@@ -1,6 +1,6 @@
 use Rattle.std.proofs.Common.{drop, flat_map, map, ◌++◌, ◌≡◌}
 use Rattle.module_arena.specs.View.{local_view}
-use Rattle.operand_write.specs.Numbered.{texts}
+use Rattle.record_write.specs.Operands.Numbered.{texts}
 use Rattle.record_table.specs.Fields.{label}
 use Rattle.module_arena.specs.declared.entry.Parameter.{Parameter}
 use Rattle.bitcode_write.proofs.bodies.put_names.Given as goal

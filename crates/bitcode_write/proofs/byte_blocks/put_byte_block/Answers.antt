@@ -7,7 +7,7 @@ use Rattle.bitcode_write.proofs.Lined.{wrote_ok}
 use Rattle.record_table.specs.Spelling.{of_bytes, put}
 use Rattle.bit_stream.specs.Abbreviation.{AdmittedAbbreviation}
 use Rattle.bit_stream.specs.declared.abbreviation.AbbrevOp.{AbbrevOp}
-use Rattle.operand_write.proofs.Chain.{four}
+use Rattle.record_write.proofs.OnOperands.Chain.{four}
 use Rattle.bitcode_write.proofs.byte_blocks.put_byte_block.Goals as goal
 
 pub define_abbreviation-requires-clause-admitted : goal.define_abbreviation-requires-clause-admitted

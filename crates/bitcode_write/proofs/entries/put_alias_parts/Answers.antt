@@ -6,12 +6,12 @@ use Rattle.std.specs.Option.{option_map_or}
 use Rattle.bitcode_write.specs.Entries.{alias_of}
 use Rattle.module_arena.specs.Known.{counts}
 use Rattle.module_arena.specs.Lists.{name_at}
-use Rattle.operand_write.specs.Numbered.{indices, texts}
+use Rattle.record_write.specs.Operands.Numbered.{indices, texts}
 use Rattle.record_table.specs.Layout.{place}
 use Rattle.std.specs.Prelude.{bytes_eq, cond, ◌||◌}
 use Rattle.module_arena.specs.Known.{HasGlobal}
 use Rattle.module_arena.specs.declared.entry.GlobalId.{GlobalId}
-use Rattle.operand_write.proofs.Chain.{four}
+use Rattle.record_write.proofs.OnOperands.Chain.{four}
 use Rattle.bitcode_write.proofs.entries.put_alias_parts.Goals as goal
 
 by_first : (here : Bool) (x y : ℕ) → (here ≡ false → x ≡ y) → cond here 0 (suc x) ≡ cond here 0 (suc y)

@@ -1,7 +1,7 @@
 use Rattle.std.proofs.Common.{Bool, List, [], ap, map, refl, sym, ℕ, ◌++◌, ◌∙◌, ◌∷◌, ◌≡◌}
 use Rattle.bitcode_write.proofs.Chain.{six}
 use Rattle.module_arena.specs.View.{parameter_view}
-use Rattle.operand_write.specs.Numbered.{indices, texts}
+use Rattle.record_write.specs.Operands.Numbered.{indices, texts}
 use Rattle.record_table.specs.Fields.{bool_code, ty}
 use Rattle.record_table.specs.Layout.{counted}
 use Rattle.type_table.specs.Tree.{Tree}

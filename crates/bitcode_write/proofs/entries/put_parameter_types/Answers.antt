@@ -1,11 +1,11 @@
 use Rattle.std.proofs.Common.{List, [], ap, flat_map, length, map, refl, sym, ℕ, ◌++◌, ◌∙◌, ◌∷◌}
 use Rattle.std.proofs.lemmas.List.{length-map}
 use Rattle.bitcode_write.proofs.Chain.{part_end, part_more}
-use Rattle.operand_write.specs.Numbered.{indices}
+use Rattle.record_write.specs.Operands.Numbered.{indices}
 use Rattle.record_table.specs.Fields.{ty}
 use Rattle.type_table.specs.Types.{tree}
 use Rattle.module_arena.specs.declared.entry.Parameter.{Parameter}
-use Rattle.operand_write.proofs.Chain.{two}
+use Rattle.record_write.proofs.OnOperands.Chain.{two}
 use Rattle.bitcode_write.proofs.entries.put_parameter_types.Goals as goal
 
 pub parts-preserved : goal.parts-preserved

@@ -1,6 +1,6 @@
 use Rattle.std.proofs.Common.{List, ap, ℕ, ◌++◌, ◌∙◌}
 use Rattle.bitcode_write.proofs.Chain.{six}
-use Rattle.operand_write.specs.Numbered.{texts}
+use Rattle.record_write.specs.Operands.Numbered.{texts}
 use Rattle.bitcode_write.proofs.entries.put_variable_parts.Goals as goal
 
 pub returns : goal.returns

@@ -2,7 +2,7 @@ use Rattle.std.proofs.Common.{[], drop, map, ◌≡◌}
 use Rattle.bit_stream.specs.Writer.{Writer}
 use Rattle.bitcode_write.specs.Entries.{alias_of}
 use Rattle.bitcode_write.specs.Put.{IsOpen, PutsLines}
-use Rattle.operand_write.specs.Numbered.{indices, texts}
+use Rattle.record_write.specs.Operands.Numbered.{indices, texts}
 use Rattle.record_table.specs.Records as records
 use Rattle.module_arena.specs.Module as m
 use Rattle.bitcode_write.proofs.globals.put_aliases.Given as goal

@@ -5,7 +5,7 @@ use Rattle.bitcode_write.proofs.Lined.{lines_same, things_end, things_more}
 use Rattle.bitcode_write.specs.Entries.{function_of}
 use Rattle.module_arena.specs.Known.{IsGood, KnowsFunction}
 use Rattle.module_arena.specs.Lists.{Lists}
-use Rattle.operand_write.specs.Numbered.{indices, texts}
+use Rattle.record_write.specs.Operands.Numbered.{indices, texts}
 use Rattle.record_table.specs.Records as records
 use Rattle.module_arena.specs.Module as m
 use Rattle.module_arena.specs.declared.entry.Function.{Function}

@@ -2,7 +2,7 @@ use Rattle.std.proofs.Common.{is_some, map, ◌++◌}
 use Rattle.bitcode_write.proofs.Lined.{lines_then}
 use Rattle.bitcode_write.specs.Entries.{alias_of, function_of, variable_of}
 use Rattle.module_arena.specs.View.{module_of}
-use Rattle.operand_write.specs.Numbered.{indices, texts}
+use Rattle.record_write.specs.Operands.Numbered.{indices, texts}
 use Rattle.record_table.specs.Records as records
 use Rattle.module_arena.specs.Module as m
 use Rattle.bitcode_write.proofs.globals.put_globals.Goals as goal

@@ -3,7 +3,7 @@ use Rattle.bitcode_write.proofs.Chain.{from_empty}
 use Rattle.bitcode_write.proofs.Lined.{lines_as, lines_same, lines_then}
 use Rattle.module_arena.specs.Lists.{Lists}
 use Rattle.module_arena.specs.View.{module_of}
-use Rattle.operand_write.specs.Numbered.{texts}
+use Rattle.record_write.specs.Operands.Numbered.{texts}
 use Rattle.record_table.specs.Spelling.{Line, text_line}
 use Rattle.bitcode_write.proofs.globals.put_head.Goals as goal
 

@@ -4,7 +4,7 @@ use Rattle.bitcode_write.proofs.Lined.{things_end, things_more}
 use Rattle.bitcode_write.specs.Entries.{IsVariable, variable_of}
 use Rattle.module_arena.specs.Known.{IsGood, KnowsVariable}
 use Rattle.module_arena.specs.Lists.{Lists}
-use Rattle.operand_write.specs.Numbered.{indices, texts}
+use Rattle.record_write.specs.Operands.Numbered.{indices, texts}
 use Rattle.record_table.specs.Records as records
 use Rattle.module_arena.specs.Module as m
 use Rattle.module_arena.specs.declared.entry.Variable.{Variable}

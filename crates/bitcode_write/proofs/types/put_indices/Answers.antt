@@ -1,6 +1,6 @@
 use Rattle.std.proofs.Common.{List, flat_map, map, refl, ℕ}
 use Rattle.bitcode_write.proofs.Chain.{part_end, part_more}
-use Rattle.operand_write.specs.Numbered.{indices}
+use Rattle.record_write.specs.Operands.Numbered.{indices}
 use Rattle.record_table.specs.Fields.{ty}
 use Rattle.type_table.specs.Types.{tree}
 use Rattle.bitcode_write.proofs.types.put_indices.Goals as goal

@@ -1,5 +1,5 @@
 use Rattle.std.proofs.Common.{drop, flat_map, map, ◌++◌, ◌≡◌}
-use Rattle.operand_write.specs.Numbered.{indices}
+use Rattle.record_write.specs.Operands.Numbered.{indices}
 use Rattle.record_table.specs.Fields.{ty}
 use Rattle.type_table.specs.Types.{tree}
 use Rattle.bitcode_write.proofs.types.put_indices.Given as goal

@@ -2,13 +2,13 @@ use Rattle.std.proofs.Common.{List, Some, ap, map, subst, sym, ℕ, ◌∙◌, �
 use Rattle.bitcode_write.proofs.TypeLines.{fields_listed}
 use Rattle.bitcode_write.specs.Entries.{body_operands}
 use Rattle.module_arena.specs.View.{module_of}
-use Rattle.operand_write.specs.Numbered.{indices}
+use Rattle.record_write.specs.Operands.Numbered.{indices}
 use Rattle.record_table.specs.Fields.{ty}
 use Rattle.record_table.specs.Layout.{counted}
 use Rattle.record_table.specs.Mentions.{mentioned}
 use Rattle.type_table.specs.Types.{IsKnownBody, tree, trees}
 use Rattle.type_table.specs.declared.ir_type.StructBody.{StructBody}
-use Rattle.operand_write.proofs.Chain.{reworded}
+use Rattle.record_write.proofs.OnOperands.Chain.{reworded}
 use Rattle.bitcode_write.proofs.types.put_known_body.Goals as goal
 
 pub put_fields-requires : goal.put_fields-requires

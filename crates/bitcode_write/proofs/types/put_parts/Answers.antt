@@ -3,12 +3,12 @@ use Rattle.std.proofs.lemmas.List.{append-nil}
 use Rattle.bitcode_write.proofs.TypeLines.{named_place, parts_listed}
 use Rattle.bitcode_write.specs.Entries.{type_operands}
 use Rattle.module_arena.specs.View.{module_of}
-use Rattle.operand_write.specs.Numbered.{indices}
+use Rattle.record_write.specs.Operands.Numbered.{indices}
 use Rattle.record_table.specs.Fields.{bool_code, ty}
 use Rattle.record_table.specs.Mentions.{mentioned}
 use Rattle.type_table.specs.Types.{IsKnown, tree, trees}
 use Rattle.type_table.specs.declared.ir_type.IrType.{IrType}
-use Rattle.operand_write.proofs.Chain.{reworded}
+use Rattle.record_write.proofs.OnOperands.Chain.{reworded}
 use Rattle.bitcode_write.proofs.types.put_parts.Goals as goal
 
 pub returns-in-Int : goal.returns-in-Int

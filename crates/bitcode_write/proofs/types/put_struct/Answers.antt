@@ -7,11 +7,11 @@ use Rattle.bitcode_write.proofs.TypeLines.{struct_at}
 use Rattle.bitcode_write.specs.Entries.{body_operands, define_in}
 use Rattle.bitcode_write.specs.Put.{PutsLines}
 use Rattle.module_arena.specs.Lists.{Lists}
-use Rattle.operand_write.specs.Numbered.{texts}
+use Rattle.record_write.specs.Operands.Numbered.{texts}
 use Rattle.type_table.specs.Tree.{TreeBody}
 use Rattle.type_table.specs.Types.{IsGood, Types, bodies, names}
 use Rattle.type_table.specs.Types.{KnowsBody as KnowsOne}
-use Rattle.operand_write.proofs.Chain.{two}
+use Rattle.record_write.proofs.OnOperands.Chain.{two}
 use Rattle.bitcode_write.proofs.types.put_struct.Goals as goal
 
 pub struct_body-requires : goal.struct_body-requires

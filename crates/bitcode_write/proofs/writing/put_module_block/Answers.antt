@@ -5,7 +5,7 @@ use Rattle.bitcode_write.proofs.Lined.{around_kept, block_before, entered_open, 
 use Rattle.bitcode_write.specs.Entries.{function_of}
 use Rattle.bitcode_write.specs.Put.{Puts}
 use Rattle.module_arena.specs.View.{module_of}
-use Rattle.operand_write.specs.Numbered.{indices, texts}
+use Rattle.record_write.specs.Operands.Numbered.{indices, texts}
 use Rattle.record_table.specs.Mentions.{mentioned}
 use Rattle.record_table.specs.Spelling.{body_of, global_lines, head_lines, put, put_block, put_bodies, put_module, texts_in, type_lines}
 use Rattle.type_table.specs.Types.{bodies}

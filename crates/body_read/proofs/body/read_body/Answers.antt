@@ -1,6 +1,6 @@
 use Rattle.std.proofs.Common.{subst}
 use Rattle.std.proofs.lemmas.Result.{err_from_is_err_and}
-use Rattle.body_records.proofs.Closing.{when_ok}
+use Rattle.body_read.proofs.OnBlocks.Closing.{when_ok}
 use Rattle.body_read.specs.Whole.{Closes, IsWhole}
 use Rattle.body_read.proofs.Closed.{closing}
 use Rattle.body_read.proofs.Told.{refused_so}

@@ -5,7 +5,7 @@ use Rattle.record_table.specs.Faults.{Records}
 use Rattle.record_table.specs.Fields.{Numbering}
 use Rattle.record_read.specs.Entries.{IsBefore}
 use Rattle.record_read.specs.Fields.{texts_of}
-use Rattle.body_ahead.specs.Ahead.{AreCounts}
+use Rattle.body_read.specs.Ahead.Ahead.{AreCounts}
 use Rattle.body_read.specs.Whole.{KeepsCounts, NumbersOutside}
 use Rattle.body_read.proofs.Reading.{IsLeft, IsReading}
 use Rattle.body_read.proofs.body.read_records.Given as goal

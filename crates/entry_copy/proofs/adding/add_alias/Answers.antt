@@ -1,7 +1,7 @@
 use Rattle.module_arena.specs.Changes.{with_alias}
 use Rattle.module_arena.specs.Known.{counts}
-use Rattle.type_build.proofs.Declaring.{memory_alone, few_aliases_still}
-use Rattle.type_build.proofs.Growing.{grows_not}
+use Rattle.item_build.proofs.OnTypes.Declaring.{memory_alone, few_aliases_still}
+use Rattle.item_build.proofs.OnTypes.Growing.{grows_not}
 use Rattle.entry_copy.proofs.adding.add_alias.Goals as goal
 
 pub entry_out_of_memory-requires : goal.entry_out_of_memory-requires

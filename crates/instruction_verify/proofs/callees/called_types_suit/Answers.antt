@@ -1,6 +1,6 @@
 use Rattle.std.proofs.Common.{Some, sym, ap, ◌∙◌}
 use Rattle.type_table.specs.Tree.{ptr}
-use Rattle.constant_verify.proofs.ConstantsKnown.{own_structs}
+use Rattle.entry_verify.proofs.OnConstants.ConstantsKnown.{own_structs}
 use Rattle.module_arena.specs.EntryRules.{constant_types_suit}
 use Rattle.module_arena.specs.InstructionRules.{callee_types_suit}
 use Rattle.module_arena.specs.View.{constant_at, constants_of, module_of}

@@ -1,7 +1,7 @@
 use Rattle.std.proofs.Common.{List, [], ◌∷◌, refl, ap, ◌∙◌, subst}
 use Rattle.module_arena.specs.Changes.{function_in}
 use Rattle.module_arena.specs.Valid.{Demand, InstructionOf}
-use Rattle.type_verify.specs.Judged.{Judged, asks}
+use Rattle.entry_verify.specs.Types.Judged.{Judged, asks}
 use Rattle.instruction_verify.proofs.Asked.{demand}
 use Rattle.instruction_verify.proofs.endings.judge_ending_types.Goals as goal
 

@@ -1,6 +1,6 @@
 use Rattle.std.proofs.Common.{sym, ap, ◌∙◌}
 use Rattle.type_table.specs.Types.{trees}
-use Rattle.constant_verify.proofs.PartsTold.{number_written}
+use Rattle.entry_verify.proofs.OnConstants.PartsTold.{number_written}
 use Rattle.module_arena.specs.Constants.{written_number}
 use Rattle.module_arena.specs.Lists.{name_at}
 use Rattle.module_arena.specs.View.{constants_of}

@@ -1,7 +1,7 @@
 use Rattle.std.proofs.Common.{List, [], ◌∷◌, ap, ◌∙◌, subst}
 use Rattle.instruction_verify.proofs.Asked.{demand}
 use Rattle.module_arena.specs.Valid.{Demand, InstructionOf}
-use Rattle.type_verify.specs.Judged.{Judged, asks}
+use Rattle.entry_verify.specs.Types.Judged.{Judged, asks}
 use Rattle.instruction_verify.proofs.first.judge_ending_first.Goals as goal
 
 pub returns : goal.returns

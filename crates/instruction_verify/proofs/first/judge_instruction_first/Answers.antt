@@ -1,9 +1,9 @@
 use Rattle.std.proofs.Common.{◌&&◌, List, [], ◌∷◌, sym, ap, ◌∙◌, subst}
-use Rattle.constant_verify.proofs.ConstantsKnown.{own_structs}
+use Rattle.entry_verify.proofs.OnConstants.ConstantsKnown.{own_structs}
 use Rattle.instruction_verify.proofs.Asked.{demand}
 use Rattle.module_arena.specs.Valid.{Demand, InstructionOf}
 use Rattle.type_table.specs.Types.{Types, structs}
-use Rattle.type_verify.specs.Judged.{Judged, asks}
+use Rattle.entry_verify.specs.Types.Judged.{Judged, asks}
 use Rattle.instruction_verify.specs.ArenaOperands.{instruction_in}
 use Rattle.instruction_verify.specs.Parts.{own_types_suit}
 use Rattle.instruction_verify.proofs.Within.{types_within, written_within}

@@ -1,6 +1,6 @@
-use Rattle.std.proofs.Common.{◌≡◌, ◌&&◌, true, sym, ap, ◌∙◌}
+use Rattle.std.proofs.Common.{◌&&◌, sym, ap, ◌∙◌}
 use Rattle.std.proofs.lemmas.Bool.{and_parts}
-use Rattle.constant_verify.proofs.ConstantsKnown.{own_structs}
+use Rattle.entry_verify.proofs.OnConstants.ConstantsKnown.{own_structs}
 use Rattle.module_arena.specs.ValueRules as rules
 use Rattle.type_table.specs.Types.{Types, structs}
 use Rattle.instruction_verify.specs.ArenaOperands.{instruction_in}

@@ -5,7 +5,7 @@ use Rattle.module_arena.specs.Same.{same_type}
 use Rattle.module_arena.specs.TypeTests.{is_type, part_at}
 use Rattle.module_arena.specs.ValueRules as rules
 use Rattle.module_arena.specs.declared.instruction.Insertion.{Insertion}
-use Rattle.entry_rules.proofs.EntriesFound.{some-map}
+use Rattle.entry_verify.proofs.OnEntries.EntriesFound.{some-map}
 use Rattle.instruction_verify.specs.ArenaOperands.{instruction_in}
 use Rattle.instruction_verify.proofs.NothingAsked.{no_part}
 use Rattle.instruction_verify.proofs.rules.part_suits.Goals as goal

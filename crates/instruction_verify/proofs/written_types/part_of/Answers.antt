@@ -3,7 +3,7 @@ use Rattle.std.specs.Prelude.{IfSome}
 use Rattle.std.specs.Option.{option_map}
 use Rattle.type_table.specs.Types.{tree, trees}
 use Rattle.module_arena.specs.TypeTests.{part_type}
-use Rattle.type_verify.proofs.OpenedTold.{field_known, field_told}
+use Rattle.entry_verify.proofs.OnTypes.OpenedTold.{field_known, field_told}
 use Rattle.instruction_verify.proofs.PartsTold.{no_part}
 use Rattle.instruction_verify.proofs.written_types.part_of.Goals as goal
 

@@ -1,5 +1,5 @@
 use Rattle.std.proofs.Common.{arith, sym}
-use Rattle.masked_bytes.proofs.Numbers.{below_more, times_fits}
+use Rattle.ir_memory.proofs.OnMasked.Numbers.{below_more, times_fits}
 use Rattle.ir_memory.proofs.Bytes.{number_of-step, number_of-spoiled}
 use Rattle.ir_memory.proofs.cell.number_of.Goals as goal
 

@@ -1,7 +1,7 @@
 use Rattle.std.proofs.Common.{◌≡◌, ◌∙◌, ap, ◌+◌}
 use Rattle.std.specs.Prelude.{slice_range}
 use Rattle.std.proofs.lemmas.List.{get_or-set_same}
-use Rattle.masked_bytes.specs.Masked.{put}
+use Rattle.ir_memory.specs.Masked.Masked.{put}
 use Rattle.ir_memory.specs.declared.kept.KeptBlock.{KeptBlock}
 use Rattle.ir_memory.proofs.Writes.{put-back}
 use Rattle.ir_memory.proofs.copy.copy_bytes.Goals as goal

@@ -1,6 +1,6 @@
 use Rattle.std.proofs.Common.{arith, ◌+◌, ◌≡◌, length, Some}
 use Rattle.std.proofs.lemmas.List.FromFn.{length-map-range_with_len}
-use Rattle.masked_bytes.specs.Masked.{bytes, digit}
+use Rattle.ir_memory.specs.Masked.Masked.{bytes, digit}
 use Rattle.ir_memory.proofs.Writes.{room-bytes, room-small, room-unmixed, none-within, seen-plain, sound-plain, cells-number}
 use Rattle.ir_memory.proofs.write.write_number.Goals as goal
 

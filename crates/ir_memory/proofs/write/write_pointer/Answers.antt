@@ -1,6 +1,6 @@
 use Rattle.std.proofs.Common.{arith, ◌+◌, ◌≡◌, ◌∙◌, sym, ap, subst, length, Some, true, false}
 use Rattle.std.proofs.lemmas.List.FromFn.{length-map-range_with_len}
-use Rattle.masked_bytes.specs.Masked.{bytes, digit}
+use Rattle.ir_memory.specs.Masked.Masked.{bytes, digit}
 use Rattle.ir_memory.specs.Seen.{at, all_seen, IsSound}
 use Rattle.ir_memory.proofs.Changed.{all-same, sound-same, seen-put, sound-put, set-read, on_err}
 use Rattle.ir_memory.proofs.Writes.{room-small, piece-within, same-beside, cells-pointer}

@@ -7,9 +7,9 @@ use Rattle.module_arena.specs.View.{alias_view, alias_type_view}
 use Rattle.canonical.specs.Canonical.{linkage_phrase, alias_type}
 use Rattle.canonical.specs.Names.{global}
 use Rattle.canonical.specs.Phrase.{Phrase, word, mark, comma, ◌␣◌, ◌⌢◌}
-use Rattle.phrase_printer.specs.Printing.{separator_of}
-use Rattle.phrase_printer.proofs.Printing.{prints_same}
-use Rattle.instruction_printer.proofs.Chained.{spaced, touching}
+use Rattle.ir_printer.specs.Phrases.Printing.{separator_of}
+use Rattle.ir_printer.proofs.OnPhrases.Printing.{prints_same}
+use Rattle.ir_printer.proofs.OnInstructions.Chained.{spaced, touching}
 use Rattle.ir_printer.proofs.alias.put_alias.Goals as goal
 
 pub returns : goal.returns

@@ -5,9 +5,9 @@ use Rattle.module_arena.specs.View.{type_at}
 use Rattle.canonical.specs.Operations.{dotted}
 use Rattle.canonical.specs.Phrase.{Phrase, in_parentheses, listed}
 use Rattle.canonical.specs.Types.{type_phrase}
-use Rattle.phrase_printer.specs.Printing.{separator_of}
-use Rattle.phrase_printer.proofs.Parts.{parentheses_put}
-use Rattle.instruction_printer.proofs.Chained.{spaced}
+use Rattle.ir_printer.specs.Phrases.Printing.{separator_of}
+use Rattle.ir_printer.proofs.OnPhrases.Parts.{parentheses_put}
+use Rattle.ir_printer.proofs.OnInstructions.Chained.{spaced}
 use Rattle.ir_printer.proofs.alias.put_function_type.Goals as goal
 
 pub returns : goal.returns

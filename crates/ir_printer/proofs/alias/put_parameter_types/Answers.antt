@@ -1,7 +1,7 @@
 use Rattle.std.proofs.Common.{List, ap}
 use Rattle.ir_lexer.specs.Pieces.{Nothing}
 use Rattle.canonical.specs.Phrase.{Phrase, listed}
-use Rattle.phrase_printer.proofs.Printing.{prints_same}
+use Rattle.ir_printer.proofs.OnPhrases.Printing.{prints_same}
 use Rattle.ir_printer.proofs.Lists.{types_mapped}
 use Rattle.ir_printer.proofs.alias.put_parameter_types.Goals as goal
 

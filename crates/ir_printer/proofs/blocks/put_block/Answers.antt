@@ -5,9 +5,9 @@ use Rattle.module_arena.specs.View.{local_view}
 use Rattle.canonical.specs.Instructions.{ending_phrase}
 use Rattle.canonical.specs.Names.{label}
 use Rattle.canonical.specs.Phrase.{each}
-use Rattle.phrase_printer.specs.Printing.{separator_of}
-use Rattle.phrase_printer.proofs.Printing.{prints_same, prints_then}
-use Rattle.instruction_printer.specs.Lines.{ending_of}
+use Rattle.ir_printer.specs.Phrases.Printing.{separator_of}
+use Rattle.ir_printer.proofs.OnPhrases.Printing.{prints_same, prints_then}
+use Rattle.ir_printer.specs.Instructions.Lines.{ending_of}
 use Rattle.ir_printer.proofs.Lines.{lines}
 use Rattle.ir_printer.proofs.blocks.put_block.Goals as goal
 

@@ -1,9 +1,9 @@
 use Rattle.std.proofs.Common.{drop}
-use Rattle.gathered.specs.Told.{GatherState, state}
+use Rattle.ir_printer.specs.Gathered.Told.{GatherState, state}
 use Rattle.ir_lexer.specs.Pieces.{Separator, Line}
 use Rattle.canonical.specs.Phrase.{each}
 use Rattle.ir_printer.proofs.Lines.{block_lines}
-use Rattle.phrase_printer.specs.Printing.{Prints}
+use Rattle.ir_printer.specs.Phrases.Printing.{Prints}
 use Rattle.ir_printer.proofs.blocks.put_blocks.Given as goal
 
 -- who puts the rest from here on has put them all

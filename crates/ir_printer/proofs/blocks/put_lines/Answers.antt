@@ -2,7 +2,7 @@ use Rattle.std.proofs.Common.{List, refl, sym, subst}
 use Rattle.ir_lexer.specs.Pieces.{Indented}
 use Rattle.module_arena.specs.declared.instruction.Inst.{Inst}
 use Rattle.canonical.specs.Instructions.{instruction_phrase}
-use Rattle.instruction_printer.specs.Lines.{instruction_of}
+use Rattle.ir_printer.specs.Instructions.Lines.{instruction_of}
 use Rattle.ir_printer.proofs.Lines.{lines}
 use Rattle.ir_printer.specs.Blocks.{HasInst}
 use Rattle.ir_printer.proofs.Lined.{line_more, lines_end}

@@ -1,7 +1,7 @@
 use Rattle.std.proofs.Common.{drop}
-use Rattle.gathered.specs.Told.{GatherState, state}
+use Rattle.ir_printer.specs.Gathered.Told.{GatherState, state}
 use Rattle.ir_lexer.specs.Pieces.{Separator}
-use Rattle.phrase_printer.specs.Printing.{Prints}
+use Rattle.ir_printer.specs.Phrases.Printing.{Prints}
 use Rattle.ir_printer.specs.Entries.{alias_lines}
 use Rattle.ir_printer.proofs.entries.put_aliases.Given as goal
 

@@ -1,7 +1,7 @@
 use Rattle.std.proofs.Common.{ℕ, List, codes, sym, ap, append-nil}
 use Rattle.ir_lexer.specs.Pieces.{TextPiece, Line}
 use Rattle.canonical.specs.Phrase.{word}
-use Rattle.phrase_printer.proofs.Printing.{prints_same}
+use Rattle.ir_printer.proofs.OnPhrases.Printing.{prints_same}
 use Rattle.ir_printer.specs.Listed.{text_line}
 use Rattle.ir_printer.proofs.entries.put_source_line.Goals as goal
 

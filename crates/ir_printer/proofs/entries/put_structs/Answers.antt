@@ -4,7 +4,7 @@ use Rattle.ir_lexer.specs.Pieces.{Line}
 use Rattle.type_table.specs.Tree.{TreeBody, opaque_body}
 use Rattle.type_table.specs.Types.{structs, trees, tree_struct}
 use Rattle.canonical.specs.Canonical.{struct_phrase}
-use Rattle.phrase_printer.proofs.Printing.{prints_same}
+use Rattle.ir_printer.proofs.OnPhrases.Printing.{prints_same}
 use Rattle.ir_printer.specs.Listed.{struct_line}
 use Rattle.ir_printer.proofs.Lined.{line_more, lines_end}
 use Rattle.ir_printer.proofs.entries.put_structs.Goals as goal

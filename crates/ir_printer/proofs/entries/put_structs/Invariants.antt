@@ -1,10 +1,10 @@
 use Rattle.std.proofs.Common.{drop, map}
-use Rattle.gathered.specs.Told.{GatherState, state}
+use Rattle.ir_printer.specs.Gathered.Told.{GatherState, state}
 use Rattle.ir_lexer.specs.Pieces.{Separator, Line}
 use Rattle.type_table.specs.Types.{structs}
 use Rattle.canonical.specs.Canonical.{struct_phrase}
 use Rattle.canonical.specs.Phrase.{each}
-use Rattle.phrase_printer.specs.Printing.{Prints}
+use Rattle.ir_printer.specs.Phrases.Printing.{Prints}
 use Rattle.ir_printer.proofs.entries.put_structs.Given as goal
 
 -- who puts the rest from here on has put them all

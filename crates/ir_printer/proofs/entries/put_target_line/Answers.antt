@@ -1,6 +1,6 @@
 use Rattle.std.proofs.Common.{ℕ, List, sym, ap, append-nil}
 use Rattle.ir_lexer.specs.Pieces.{TextPiece, Line}
-use Rattle.phrase_printer.proofs.Printing.{prints_same}
+use Rattle.ir_printer.proofs.OnPhrases.Printing.{prints_same}
 use Rattle.ir_printer.specs.Listed.{text_line, target}
 use Rattle.ir_printer.proofs.entries.put_target_line.Goals as goal
 

@@ -2,7 +2,7 @@ use Rattle.std.proofs.Common.{ℕ, List, ◌++◌, codes, Option, ap}
 use Rattle.ir_lexer.specs.Pieces.{Line}
 use Rattle.canonical.specs.Canonical.{text_phrases}
 use Rattle.canonical.specs.Phrase.{each, word}
-use Rattle.phrase_printer.proofs.Printing.{prints_same}
+use Rattle.ir_printer.proofs.OnPhrases.Printing.{prints_same}
 use Rattle.ir_printer.specs.Listed.{target}
 use Rattle.ir_printer.proofs.Followed.{lines_then}
 use Rattle.ir_printer.proofs.entries.put_texts.Goals as goal

@@ -6,10 +6,10 @@ use Rattle.module_arena.specs.declared.entry.Parameter.{Parameter}
 use Rattle.canonical.specs.Operations.{dotted}
 use Rattle.canonical.specs.Phrase.{Phrase, word, ◌⌢◌, in_parentheses, listed}
 use Rattle.canonical.specs.Types.{type_phrase}
-use Rattle.phrase_printer.specs.Printing.{separator_of}
-use Rattle.phrase_printer.proofs.Printing.{prints_same}
-use Rattle.phrase_printer.proofs.Parts.{parentheses_put}
-use Rattle.instruction_printer.proofs.Chained.{spaced, touching}
+use Rattle.ir_printer.specs.Phrases.Printing.{separator_of}
+use Rattle.ir_printer.proofs.OnPhrases.Printing.{prints_same}
+use Rattle.ir_printer.proofs.OnPhrases.Parts.{parentheses_put}
+use Rattle.ir_printer.proofs.OnInstructions.Chained.{spaced, touching}
 use Rattle.ir_printer.specs.Listed.{head_of, declared_list}
 use Rattle.ir_printer.proofs.functions.put_declaration.Goals as goal
 

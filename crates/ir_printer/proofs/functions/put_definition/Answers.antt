@@ -8,10 +8,10 @@ use Rattle.module_arena.specs.Lists.{function_blocks}
 use Rattle.canonical.specs.Canonical.{body_of_blocks}
 use Rattle.canonical.specs.Instructions.{blocks_phrase}
 use Rattle.canonical.specs.Phrase.{Phrase, word, mark, ◌␣◌, ◌⌢◌, in_parentheses, listed}
-use Rattle.phrase_printer.specs.Printing.{separator_of}
-use Rattle.phrase_printer.proofs.Printing.{prints_same, prints_then}
-use Rattle.phrase_printer.proofs.Parts.{parentheses_put}
-use Rattle.instruction_printer.proofs.Chained.{spaced, touching}
+use Rattle.ir_printer.specs.Phrases.Printing.{separator_of}
+use Rattle.ir_printer.proofs.OnPhrases.Printing.{prints_same, prints_then}
+use Rattle.ir_printer.proofs.OnPhrases.Parts.{parentheses_put}
+use Rattle.ir_printer.proofs.OnInstructions.Chained.{spaced, touching}
 use Rattle.ir_printer.specs.Listed.{head_of, parameter_list}
 use Rattle.ir_printer.specs.Blocks.{block_of}
 use Rattle.ir_printer.proofs.Bodies.{blocks_are, has_blocks}

@@ -1,6 +1,6 @@
 use Rattle.std.proofs.Common.{ℕ, ◌+◌, ◌-◌, length, ap, arith}
 use Rattle.ir_lexer.specs.declared.token.TokenKind.TheVariants as kind
-use Rattle.phrase_printer.proofs.Printing.{prints_none}
+use Rattle.ir_printer.proofs.OnPhrases.Printing.{prints_none}
 use Rattle.ir_printer.proofs.Lists.{declared_more, declared_end}
 use Rattle.ir_printer.proofs.head.put_declared.Goals as goal
 

@@ -1,6 +1,6 @@
 use Rattle.std.proofs.Common.{drop}
-use Rattle.gathered.specs.Told.{GatherState, state}
-use Rattle.phrase_printer.specs.Printing.{Prints}
+use Rattle.ir_printer.specs.Gathered.Told.{GatherState, state}
+use Rattle.ir_printer.specs.Phrases.Printing.{Prints}
 use Rattle.ir_printer.specs.Listed.{declared_list}
 use Rattle.ir_printer.proofs.head.put_declared.Given as goal
 

@@ -3,8 +3,8 @@ use Rattle.canonical.specs.Canonical.{linkage_phrase}
 use Rattle.canonical.specs.Names.{global}
 use Rattle.canonical.specs.Phrase.{Phrase, ◌␣◌}
 use Rattle.canonical.specs.Types.{type_phrase}
-use Rattle.phrase_printer.specs.Printing.{separator_of}
-use Rattle.instruction_printer.proofs.Chained.{spaced}
+use Rattle.ir_printer.specs.Phrases.Printing.{separator_of}
+use Rattle.ir_printer.proofs.OnInstructions.Chained.{spaced}
 use Rattle.ir_printer.proofs.head.put_head.Goals as goal
 
 pub returns : goal.returns

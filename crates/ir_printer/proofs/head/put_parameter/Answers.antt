@@ -2,8 +2,8 @@ use Rattle.type_table.specs.Types.{tree}
 use Rattle.module_arena.specs.View.{local_view}
 use Rattle.canonical.specs.Names.{local}
 use Rattle.canonical.specs.Types.{type_phrase}
-use Rattle.phrase_printer.specs.Printing.{separator_of}
-use Rattle.instruction_printer.proofs.Chained.{spaced}
+use Rattle.ir_printer.specs.Phrases.Printing.{separator_of}
+use Rattle.ir_printer.proofs.OnInstructions.Chained.{spaced}
 use Rattle.ir_printer.proofs.head.put_parameter.Goals as goal
 
 pub returns : goal.returns

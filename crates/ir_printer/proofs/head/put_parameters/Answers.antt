@@ -3,8 +3,8 @@ use Rattle.type_table.specs.Types.{trees}
 use Rattle.module_arena.specs.declared.entry.Parameter.{Parameter}
 use Rattle.module_arena.specs.View.{parameter_view}
 use Rattle.canonical.specs.Canonical.{parameter_phrase}
-use Rattle.phrase_printer.specs.Printing.{separator_of}
-use Rattle.instruction_printer.proofs.Listing.{part_put, parts_put}
+use Rattle.ir_printer.specs.Phrases.Printing.{separator_of}
+use Rattle.ir_printer.proofs.OnInstructions.Listing.{part_put, parts_put}
 use Rattle.ir_printer.specs.Listed.{HasType, parameter_list}
 use Rattle.ir_printer.proofs.head.put_parameters.Goals as goal
 

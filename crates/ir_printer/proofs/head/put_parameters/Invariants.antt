@@ -1,7 +1,7 @@
 use Rattle.std.proofs.Common.{drop}
-use Rattle.gathered.specs.Told.{GatherState, state}
+use Rattle.ir_printer.specs.Gathered.Told.{GatherState, state}
 use Rattle.canonical.specs.Phrase.{listed}
-use Rattle.phrase_printer.specs.Printing.{separator_of, Prints}
+use Rattle.ir_printer.specs.Phrases.Printing.{separator_of, Prints}
 use Rattle.ir_printer.specs.Listed.{parameter_list}
 use Rattle.ir_printer.proofs.head.put_parameters.Given as goal
 

@@ -2,7 +2,7 @@ use Rattle.std.proofs.Common.{ℕ, List, ap, ◌∙◌}
 use Rattle.ir_lexer.specs.Pieces.{Space}
 use Rattle.ir_lexer.specs.declared.token.TokenKind.TheVariants as kind
 use Rattle.canonical.specs.Phrase.{token}
-use Rattle.phrase_printer.proofs.Printing.{prints_same}
+use Rattle.ir_printer.proofs.OnPhrases.Printing.{prints_same}
 use Rattle.ir_printer.proofs.linkage.put_linkage_word.Goals as goal
 
 pub returns : goal.returns

@@ -5,7 +5,7 @@ use Rattle.module_arena.specs.Lists.{name_at}
 use Rattle.module_arena.specs.View.{module_of, constants_of, variable_view, alias_view}
 use Rattle.canonical.specs.Canonical.{text_phrases, struct_phrase, variable_phrase, alias_phrase, function_phrase}
 use Rattle.canonical.specs.Phrase.{each, word}
-use Rattle.phrase_printer.proofs.Printing.{prints_same}
+use Rattle.ir_printer.proofs.OnPhrases.Printing.{prints_same}
 use Rattle.ir_printer.specs.Listed.{target}
 use Rattle.ir_printer.specs.Functions.{function_of}
 use Rattle.ir_printer.proofs.Followed.{lines_then, three_before}

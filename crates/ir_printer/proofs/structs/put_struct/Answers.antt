@@ -7,9 +7,9 @@ use Rattle.module_arena.specs.Module.{Bytes}
 use Rattle.canonical.specs.Canonical.{struct_phrase, body_phrase}
 use Rattle.canonical.specs.Names.{named_local}
 use Rattle.canonical.specs.Phrase.{Phrase, word, mark, ◌␣◌}
-use Rattle.phrase_printer.specs.Printing.{separator_of}
-use Rattle.phrase_printer.proofs.Printing.{prints_same}
-use Rattle.instruction_printer.proofs.Chained.{spaced}
+use Rattle.ir_printer.specs.Phrases.Printing.{separator_of}
+use Rattle.ir_printer.proofs.OnPhrases.Printing.{prints_same}
+use Rattle.ir_printer.proofs.OnInstructions.Chained.{spaced}
 use Rattle.ir_printer.proofs.Lists.{struct_at}
 use Rattle.ir_printer.proofs.structs.put_struct.Goals as goal
 

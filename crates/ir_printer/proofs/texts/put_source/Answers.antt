@@ -2,8 +2,8 @@ use Rattle.std.specs.Prelude.{codes}
 use Rattle.ir_lexer.specs.declared.token.TokenKind.TheVariants as kind
 use Rattle.canonical.specs.Names.{text}
 use Rattle.canonical.specs.Phrase.{Phrase, word, mark, ◌␣◌}
-use Rattle.phrase_printer.specs.Printing.{separator_of}
-use Rattle.instruction_printer.proofs.Chained.{spaced}
+use Rattle.ir_printer.specs.Phrases.Printing.{separator_of}
+use Rattle.ir_printer.proofs.OnInstructions.Chained.{spaced}
 use Rattle.ir_printer.proofs.texts.put_source.Goals as goal
 
 pub returns : goal.returns

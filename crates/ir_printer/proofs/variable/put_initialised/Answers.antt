@@ -5,9 +5,9 @@ use Rattle.module_arena.specs.View.{constants_of, constant_at}
 use Rattle.canonical.specs.Constants.{constant_phrase}
 use Rattle.canonical.specs.Phrase.{Phrase}
 use Rattle.canonical.specs.Types.{type_phrase}
-use Rattle.phrase_printer.specs.Printing.{separator_of}
-use Rattle.phrase_printer.proofs.Printing.{prints_same}
-use Rattle.instruction_printer.proofs.Chained.{spaced}
+use Rattle.ir_printer.specs.Phrases.Printing.{separator_of}
+use Rattle.ir_printer.proofs.OnPhrases.Printing.{prints_same}
+use Rattle.ir_printer.proofs.OnInstructions.Chained.{spaced}
 use Rattle.ir_printer.proofs.variable.put_initialised.Goals as goal
 
 pub returns-in-Some : goal.returns-in-Some

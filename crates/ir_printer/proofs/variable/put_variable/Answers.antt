@@ -6,9 +6,9 @@ use Rattle.canonical.specs.Canonical.{variable_linkage, global_or_constant, init
 use Rattle.canonical.specs.Names.{global}
 use Rattle.canonical.specs.Operations.{aligned}
 use Rattle.canonical.specs.Phrase.{Phrase, mark, ◌␣◌}
-use Rattle.phrase_printer.specs.Printing.{separator_of}
-use Rattle.phrase_printer.proofs.Printing.{prints_same}
-use Rattle.instruction_printer.proofs.Chained.{spaced, aligned_put}
+use Rattle.ir_printer.specs.Phrases.Printing.{separator_of}
+use Rattle.ir_printer.proofs.OnPhrases.Printing.{prints_same}
+use Rattle.ir_printer.proofs.OnInstructions.Chained.{spaced, aligned_put}
 use Rattle.ir_printer.proofs.variable.put_variable.Goals as goal
 
 pub returns : goal.returns

@@ -1,4 +1,4 @@
-use Rattle.std.proofs.Common.{sym, ◌∙◌}
+use Rattle.std.proofs.Common.{sym}
 use Rattle.ir_printf.proofs.Letters.{first_letter}
 use Rattle.ir_printf.proofs.pattern.plain_conversion.Goals as goal
 

@@ -1,6 +1,5 @@
 use Rattle.std.proofs.Common.{◌≡◌, ◌++◌, ◌∙◌, List, ℕ, sym, subst}
 use Rattle.std.specs.Prelude.{OnOk}
-use Rattle.ir_printf.specs.Printed.{printed_number, short_number}
 use Rattle.ir_printf.proofs.Short.{short_is}
 use Rattle.ir_printf.proofs.text.put_number.Goals as goal
 

@@ -1,14 +1,14 @@
 use Rattle.std.proofs.Common.{map, get_or, All, sym, ap, subst, ◌∙◌}
 use Rattle.std.proofs.lemmas.List.{get_or-map}
-use Rattle.ir_instructions.specs.declared.block.Instruction.{Instruction}
-use Rattle.ir_instructions.specs.View.{instruction_view, ending_view, block_view}
+use Rattle.ir_phrases.specs.declared.instructions.block.Instruction.{Instruction}
+use Rattle.ir_phrases.specs.Instructions.View.{instruction_view, ending_view, block_view}
 use Rattle.type_table.specs.Types.{structs}
 use Rattle.module_arena.specs.Module.{Numbered}
 use Rattle.module_arena.specs.View.{local_view}
-use Rattle.type_build.specs.Holding.{entries}
-use Rattle.type_build.proofs.Growing.{grows_on}
-use Rattle.buildable.specs.Bodies.{CanInstruction}
-use Rattle.instruction_build.specs.Named.{called_of}
+use Rattle.item_build.specs.Types.Holding.{entries}
+use Rattle.item_build.proofs.OnTypes.Growing.{grows_on}
+use Rattle.item_build.specs.Buildable.Bodies.{CanInstruction}
+use Rattle.ir_resolve.specs.InstructionBuild.Named.{called_of}
 use Rattle.ir_resolve.specs.Built.{instructions_built, AreInsts}
 use Rattle.ir_resolve.proofs.Partial.{all_viewed}
 use Rattle.ir_resolve.proofs.Staying.{insts_stay, ending_still, block_is}

@@ -1,17 +1,17 @@
 use Rattle.std.proofs.Common.{◌≡◌, ◌+◌, ◌++◌, ◌∷◌, [], map, flat_map, take, length, refl, sym, ap, subst, ◌∙◌, arith}
 use Rattle.std.specs.List.{sum_by}
 use Rattle.std.proofs.lemmas.List.{length-map, length-take, take_all}
-use Rattle.ir_instructions.specs.declared.block.WrittenBlock.{WrittenBlock}
-use Rattle.ir_instructions.specs.View.{instruction_view, block_view}
+use Rattle.ir_phrases.specs.declared.instructions.block.WrittenBlock.{WrittenBlock}
+use Rattle.ir_phrases.specs.Instructions.View.{instruction_view, block_view}
 use Rattle.ir_syntax.specs.Counts.{block_count}
 use Rattle.type_table.specs.Types.{structs}
 use Rattle.module_arena.specs.Mentions.{block_results}
 use Rattle.module_arena.specs.Known.{upto}
-use Rattle.type_build.specs.Holding.{entries}
-use Rattle.type_build.proofs.Growing.{grows_not, grows_on}
-use Rattle.type_build.proofs.Staying.{at_item}
-use Rattle.buildable.specs.Bodies.{CanBlock}
-use Rattle.instruction_build.specs.Named.{called_of}
+use Rattle.item_build.specs.Types.Holding.{entries}
+use Rattle.item_build.proofs.OnTypes.Growing.{grows_not, grows_on}
+use Rattle.item_build.proofs.OnTypes.Staying.{at_item}
+use Rattle.item_build.specs.Buildable.Bodies.{CanBlock}
+use Rattle.ir_resolve.specs.InstructionBuild.Named.{called_of}
 use Rattle.ir_resolve.specs.Built.{block_results_count, block_built, blocks_built, AreBlocks}
 use Rattle.ir_resolve.proofs.Meaning as meaning
 use Rattle.ir_resolve.proofs.Order.{upto_none, in_order_step}

@@ -1,13 +1,13 @@
 use Rattle.std.proofs.Common.{List, map, length, slice_get, subst, sym, ap, ◌∙◌}
 use Rattle.std.proofs.lemmas.List.{length-map}
-use Rattle.ir_instructions.specs.View.{block_view}
+use Rattle.ir_phrases.specs.Instructions.View.{block_view}
 use Rattle.ir_syntax.specs.declared.item.WrittenParameter.{WrittenParameter}
 use Rattle.ir_syntax.specs.View.{parameter_view}
 use Rattle.type_table.specs.Types.{trees}
 use Rattle.module_arena.specs.Changes.{defined, blocks_in}
 use Rattle.module_arena.specs.Known.{KnowsBody}
 use Rattle.module_arena.specs.View.{module_of, body_view, constants_of}
-use Rattle.buildable.specs.Bodies.{parameter_names, body_of}
+use Rattle.item_build.specs.Buildable.Bodies.{parameter_names, body_of}
 use Rattle.ir_resolve.proofs.Defined.{same_blocks, listed, many_parameters}
 use Rattle.ir_resolve.proofs.bodies.define_function.Goals as goal
 

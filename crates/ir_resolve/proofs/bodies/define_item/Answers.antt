@@ -3,7 +3,7 @@ use Rattle.ir_syntax.specs.declared.item.Definition.{Definition}
 use Rattle.ir_syntax.specs.declared.item.Item.{Item}
 use Rattle.ir_syntax.specs.View.{parameter_view, item_view}
 use Rattle.module_arena.specs.Module as m
-use Rattle.buildable.specs.Bodies.{parameter_names}
+use Rattle.item_build.specs.Buildable.Bodies.{parameter_names}
 use Rattle.ir_resolve.specs.Defining.{IsCalledSo}
 use Rattle.ir_resolve.proofs.bodies.define_item.Goals as goal
 

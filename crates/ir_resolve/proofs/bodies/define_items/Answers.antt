@@ -8,9 +8,9 @@ use Rattle.module_arena.specs.Module.{Module}
 use Rattle.module_arena.specs.View.{module_of}
 use Rattle.module_arena.specs.WellFormed as formed
 use Rattle.name_rules.specs.ModuleOf.{structs_in, function_in}
-use Rattle.type_build.specs.Holding.{entries}
-use Rattle.buildable.specs.Entries.{CanComplete}
-use Rattle.type_build.specs.Parameters.{without_body}
+use Rattle.item_build.specs.Types.Holding.{entries}
+use Rattle.item_build.specs.Buildable.Entries.{CanComplete}
+use Rattle.item_build.specs.Types.Parameters.{without_body}
 use Rattle.item_build.specs.Declaring.{declared_functions, counts_in}
 use Rattle.ir_resolve.specs.Defining.{defined_in, function_behind, with_bodies}
 use Rattle.ir_resolve.proofs.Defined.{bodies_more, bodies_named, no_bodies, next_is_undefined, next_is_called}

@@ -1,16 +1,16 @@
 use Rattle.std.proofs.Common.{List, map, length, drop, All, sym, ap, subst, ◌∙◌, arith}
 use Rattle.std.specs.List.{sum_by}
 use Rattle.std.proofs.lemmas.List.{length-map}
-use Rattle.ir_instructions.specs.View.{block_view}
-use Rattle.ir_instructions.specs.declared.block.WrittenBlock.{WrittenBlock}
+use Rattle.ir_phrases.specs.Instructions.View.{block_view}
+use Rattle.ir_phrases.specs.declared.instructions.block.WrittenBlock.{WrittenBlock}
 use Rattle.ir_syntax.specs.View.{parameter_view}
 use Rattle.type_table.specs.Types.{structs}
 use Rattle.module_arena.specs.declared.entry.Body as the_body
 use Rattle.module_arena.specs.Known.{upto, KnowsBody}
 use Rattle.module_arena.specs.Module.{LocalName}
-use Rattle.type_build.specs.Holding.{entries}
-use Rattle.buildable.specs.Bodies.{CanBlock, values_of, labels_of}
-use Rattle.instruction_build.specs.Named.{called_of}
+use Rattle.item_build.specs.Types.Holding.{entries}
+use Rattle.item_build.specs.Buildable.Bodies.{CanBlock, values_of, labels_of}
+use Rattle.ir_resolve.specs.InstructionBuild.Named.{called_of}
 use Rattle.ir_resolve.specs.Built.{block_results_count, blocks_built, AreBlocks}
 use Rattle.ir_resolve.proofs.Partial.{all_viewed}
 use Rattle.ir_resolve.proofs.WholeBody.{values_counted, labels_counted, few_results, few_labels, body_is, body_known}

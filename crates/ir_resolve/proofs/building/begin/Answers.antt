@@ -3,7 +3,7 @@ use Rattle.ir_syntax.specs.View.{items_view}
 use Rattle.module_arena.specs.Lists.{Lists}
 use Rattle.module_arena.specs.Module.{Module}
 use Rattle.name_rules.specs.ModuleOf.{structs_in}
-use Rattle.type_build.specs.Holding.{entries}
+use Rattle.item_build.specs.Types.Holding.{entries}
 use Rattle.item_build.specs.Partly.{with_structs}
 use Rattle.ir_resolve.proofs.Whole.{nothing_else}
 use Rattle.ir_resolve.proofs.building.begin.Goals as goal

@@ -1,6 +1,6 @@
 use Rattle.std.proofs.Common.{arith}
 use Rattle.ir_syntax.specs.View.{items_view}
-use Rattle.builds_well.proofs.Buildable.{can_build}
+use Rattle.ir_resolve.proofs.OnBuildsWell.Buildable.{can_build}
 use Rattle.ir_resolve.proofs.building.build.Goals as goal
 
 pub build_items-requires-clause-buildable : goal.build_items-requires-clause-buildable

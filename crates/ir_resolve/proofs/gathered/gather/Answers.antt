@@ -1,12 +1,12 @@
 use Rattle.std.proofs.Common.{◌≡◌, ◌+◌, ◌++◌, ◌∷◌, [], map, flat_map, take, length, sym, ap, ◌∙◌, arith}
 use Rattle.std.proofs.lemmas.List.{length-map, append-nil, append_assoc, take_all}
-use Rattle.ir_instructions.specs.View.{instruction_view, block_view}
+use Rattle.ir_phrases.specs.Instructions.View.{instruction_view, block_view}
 use Rattle.ir_syntax.specs.Counts.{block_count}
 use Rattle.ir_syntax.specs.View.{parameter_view}
 use Rattle.module_arena.specs.View.{local_view}
 use Rattle.name_rules.specs.Bodies.{block_in, blocks_in}
 use Rattle.name_rules.specs.Locals.{next_after, announced_parameter, announced_block}
-use Rattle.buildable.specs.Bodies.{parameter_names, result_names, values_of, labels_of}
+use Rattle.item_build.specs.Buildable.Bodies.{parameter_names, result_names, values_of, labels_of}
 use Rattle.ir_resolve.proofs.Numbers.{results, label, behind_more, results_more, labels_more, behind_block_le, behind_parameters_le, parameters_named, names_le, label_le}
 use Rattle.ir_resolve.proofs.Partial.{map_step, sum_step, sum_le}
 use Rattle.ir_resolve.proofs.gathered.gather.Goals as goal

@@ -1,11 +1,11 @@
 use Rattle.std.proofs.Common.{◌≡◌, ◌≤◌, ◌+◌, map, flat_map, length, take}
 use Rattle.std.specs.List.{sum_by}
-use Rattle.ir_instructions.specs.View.{block_view}
+use Rattle.ir_phrases.specs.Instructions.View.{block_view}
 use Rattle.ir_syntax.specs.Counts.{block_count}
 use Rattle.ir_syntax.specs.View.{parameter_view}
 use Rattle.module_arena.specs.View.{local_view}
 use Rattle.name_rules.specs.Locals.{next_after, announced_parameter, announced_block}
-use Rattle.buildable.specs.Bodies.{values_of, labels_of}
+use Rattle.item_build.specs.Buildable.Bodies.{values_of, labels_of}
 use Rattle.ir_resolve.proofs.gathered.gather.Given as goal
 
 abbrev pub invariant-loop-block : goal.invariant-loop-block

@@ -1,17 +1,17 @@
 use Rattle.std.proofs.Common.{◌+◌, ◌++◌, ◌∷◌, [], map, flat_map, take, refl, sym, ap, subst, ◌∙◌, arith}
 use Rattle.std.specs.List.{sum_by}
 use Rattle.std.proofs.lemmas.List.{take_all}
-use Rattle.ir_instructions.specs.declared.block.Instruction.{Instruction}
-use Rattle.ir_instructions.specs.View.{instruction_view}
+use Rattle.ir_phrases.specs.declared.instructions.block.Instruction.{Instruction}
+use Rattle.ir_phrases.specs.Instructions.View.{instruction_view}
 use Rattle.type_table.specs.Types.{structs}
 use Rattle.module_arena.specs.Mentions.{result_of}
 use Rattle.module_arena.specs.Known.{upto}
 use Rattle.name_rules.specs.Locals.{has_result}
-use Rattle.type_build.specs.Holding.{entries}
-use Rattle.type_build.proofs.Growing.{grows_not, grows_on}
-use Rattle.type_build.proofs.Staying.{at_item}
-use Rattle.buildable.specs.Bodies.{CanInstruction}
-use Rattle.instruction_build.specs.Named.{called_of, built}
+use Rattle.item_build.specs.Types.Holding.{entries}
+use Rattle.item_build.proofs.OnTypes.Growing.{grows_not, grows_on}
+use Rattle.item_build.proofs.OnTypes.Staying.{at_item}
+use Rattle.item_build.specs.Buildable.Bodies.{CanInstruction}
+use Rattle.ir_resolve.specs.InstructionBuild.Named.{called_of, built}
 use Rattle.ir_resolve.specs.Built.{result_count, instructions_built, AreInsts}
 use Rattle.ir_resolve.proofs.Meaning.{instructions_more, result_le}
 use Rattle.ir_resolve.proofs.Order.{upto_none, in_order_step, one_in_order}

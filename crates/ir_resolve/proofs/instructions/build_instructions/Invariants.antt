@@ -1,10 +1,10 @@
 use Rattle.std.proofs.Common.{◌≡◌, ◌≤◌, ◌+◌, map, flat_map, take}
 use Rattle.std.specs.List.{sum_by}
-use Rattle.ir_instructions.specs.View.{instruction_view}
+use Rattle.ir_phrases.specs.Instructions.View.{instruction_view}
 use Rattle.module_arena.specs.Known.{upto}
 use Rattle.module_arena.specs.Mentions.{result_of}
-use Rattle.type_build.specs.Stands.{Grows}
-use Rattle.instruction_build.specs.Named.{called_of}
+use Rattle.item_build.specs.Types.Stands.{Grows}
+use Rattle.ir_resolve.specs.InstructionBuild.Named.{called_of}
 use Rattle.ir_resolve.specs.Built.{result_count, instructions_built, AreInsts}
 use Rattle.ir_resolve.proofs.instructions.build_instructions.Given as goal
 

@@ -1,6 +1,6 @@
 use Rattle.ir_syntax.specs.View.{items_view}
 use Rattle.module_arena.specs.View.{module_of}
-use Rattle.reads_well.proofs.WellFormed.{reads_well}
+use Rattle.name_rules.proofs.OnReading.WellFormed.{reads_well}
 use Rattle.ir_resolve.proofs.resolving.resolve.Goals as goal
 
 pub returns-clause-well_formed : goal.returns-clause-well_formed

@@ -1,5 +1,5 @@
 use Rattle.std.proofs.Common.{◌≡◌, length}
-use Rattle.phrase_rows.proofs.Repeated.{with_front}
+use Rattle.ir_terminals.proofs.OnPhraseRows.Repeated.{with_front}
 use Rattle.ir_terminals.specs.Position.{tokens_left}
 use Rattle.ir_syntax.specs.Items.{items_row}
 use Rattle.ir_syntax.specs.View.{items_view}

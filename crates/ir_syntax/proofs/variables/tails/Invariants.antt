@@ -1,8 +1,8 @@
 use Rattle.std.proofs.Common.{◌≡◌, length}
-use Rattle.phrase_rows.specs.Row.{loop}
+use Rattle.ir_terminals.specs.PhraseRows.Row.{loop}
 use Rattle.ir_terminals.specs.Position.{tokens_left}
 use Rattle.ir_terminals.specs.Role.{class}
-use Rattle.ir_instructions.specs.Dropped.{comma_shape}
+use Rattle.ir_phrases.specs.Instructions.Dropped.{comma_shape}
 use Rattle.ir_syntax.specs.Variables.{tail_step, tails_row}
 use Rattle.ir_syntax.proofs.variables.tails.Given as goal
 

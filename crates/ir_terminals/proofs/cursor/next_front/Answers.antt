@@ -1,4 +1,4 @@
-use Rattle.std.proofs.Common.{sym, subst}
+use Rattle.std.proofs.Common.{subst}
 use Rattle.ir_terminals.specs.Front.{IsFrontOf}
 use Rattle.ir_terminals.proofs.Fronts.{front_plain}
 use Rattle.ir_terminals.proofs.cursor.next_front.Goals as goal

@@ -3,7 +3,7 @@ use Rattle.std.proofs.lemmas.Option.{get_or_from_slice_get}
 use Rattle.ir_syntax.specs.Tree.{ItemTree}
 use Rattle.ir_syntax.specs.View.{item_view, items_view}
 use Rattle.name_rules.specs.ModuleOf.{structs_in}
-use Rattle.buildable.specs.Entries.{CanDeclare}
+use Rattle.item_build.specs.Buildable.Entries.{CanDeclare}
 use Rattle.item_build.proofs.Walked.{all_between, view_split}
 use Rattle.item_build.proofs.Named.{can_item, structs_before}
 use Rattle.item_build.proofs.Partly.{same_structs}

@@ -7,7 +7,7 @@ use Rattle.type_table.specs.Types.{structs}
 use Rattle.module_arena.specs.Module.{Module}
 use Rattle.module_arena.specs.View.{module_of}
 use Rattle.name_rules.specs.ModuleOf.{struct_in, structs_in}
-use Rattle.buildable.specs.Entries.{CanDeclare}
+use Rattle.item_build.specs.Buildable.Entries.{CanDeclare}
 use Rattle.item_build.proofs.Walked.{view_more, view_split, all_between, taken}
 use Rattle.item_build.specs.Named.{struct_behind}
 use Rattle.item_build.specs.Partly.{with_structs}

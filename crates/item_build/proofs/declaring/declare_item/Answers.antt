@@ -1,5 +1,5 @@
 use Rattle.std.proofs.Common.{All, map, subst, sym}
-use Rattle.ir_constants.specs.View.{type_view}
+use Rattle.ir_phrases.specs.Constants.View.{type_view}
 use Rattle.ir_syntax.specs.declared.item.WrittenParameter.{WrittenParameter}
 use Rattle.ir_syntax.specs.declared.item.Declaration.{Declaration}
 use Rattle.ir_syntax.specs.declared.item.Definition.{Definition}
@@ -8,9 +8,9 @@ use Rattle.ir_syntax.specs.Tree.{ParameterTree}
 use Rattle.ir_syntax.specs.View.{parameter_view, item_view}
 use Rattle.type_table.specs.Types.{structs}
 use Rattle.name_rules.specs.Written.{type_in}
-use Rattle.type_build.specs.Fitting.{CanBe}
-use Rattle.type_build.proofs.Declaring.{all_mapped}
-use Rattle.buildable.specs.Entries.{CanDeclare}
+use Rattle.item_build.specs.Types.Fitting.{CanBe}
+use Rattle.item_build.proofs.OnTypes.Declaring.{all_mapped}
+use Rattle.item_build.specs.Buildable.Entries.{CanDeclare}
 use Rattle.item_build.proofs.declaring.declare_item.Goals as goal
 
 pub declare_function-requires-clause-can : goal.declare_function-requires-clause-can

@@ -7,9 +7,9 @@ use Rattle.type_table.specs.Tree.{Structs}
 use Rattle.module_arena.specs.Module.{Module}
 use Rattle.module_arena.specs.View.{module_of}
 use Rattle.name_rules.specs.ModuleOf.{structs_in}
-use Rattle.type_build.specs.Declarations.{AreFew}
-use Rattle.buildable.specs.Entries.{CanDeclare}
-use Rattle.buildable.specs.Laws.{global_names}
+use Rattle.item_build.specs.Types.Declarations.{AreFew}
+use Rattle.item_build.specs.Buildable.Entries.{CanDeclare}
+use Rattle.item_build.specs.Buildable.Laws.{global_names}
 use Rattle.item_build.specs.Declaring.{declared_in, with_declared, declared_variables, declared_aliases, declared_functions, counts_in}
 use Rattle.item_build.proofs.Declared.{declared_more, declared_named, nothing_declared, nothing_targeted, structs_kept, count_within}
 use Rattle.item_build.proofs.NamedItems.{name_is_new}

@@ -1,7 +1,7 @@
 use Rattle.std.proofs.Common.{◌≡◌, take}
 use Rattle.ir_syntax.specs.View.{items_view}
 use Rattle.module_arena.specs.View.{module_of}
-use Rattle.type_build.specs.Declarations.{AreUntargeted}
+use Rattle.item_build.specs.Types.Declarations.{AreUntargeted}
 use Rattle.item_build.specs.Declaring.{with_declared}
 use Rattle.item_build.proofs.declaring.declare_items.Given as goal
 

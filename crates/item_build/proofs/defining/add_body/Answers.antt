@@ -1,16 +1,16 @@
 use Rattle.std.proofs.Common.{true, false, List, All, map, sym, subst, ap, ◌∙◌}
-use Rattle.ir_constants.specs.declared.ty.Type as the_type
-use Rattle.ir_constants.specs.View.{type_view}
+use Rattle.ir_phrases.specs.declared.constants.ty.Type as the_type
+use Rattle.ir_phrases.specs.Constants.View.{type_view}
 use Rattle.ir_syntax.specs.declared.item.WrittenBody.{WrittenBody}
 use Rattle.ir_syntax.specs.View.{body_view}
 use Rattle.type_table.specs.Tree.{fields}
 use Rattle.type_table.specs.Types.{structs}
 use Rattle.name_rules.specs.Written.{type_in, body_in}
-use Rattle.type_build.specs.Fitting.{CanBe}
-use Rattle.type_build.specs.Stands.{AreTypes}
-use Rattle.type_build.proofs.Made.{fields_made}
-use Rattle.type_build.proofs.Declaring.{all_mapped}
-use Rattle.buildable.specs.Entries.{CanStruct}
+use Rattle.item_build.specs.Types.Fitting.{CanBe}
+use Rattle.item_build.specs.Types.Stands.{AreTypes}
+use Rattle.item_build.proofs.OnTypes.Made.{fields_made}
+use Rattle.item_build.proofs.OnTypes.Declaring.{all_mapped}
+use Rattle.item_build.specs.Buildable.Entries.{CanStruct}
 use Rattle.item_build.proofs.defining.add_body.Goals as goal
 
 pub add_types-requires : goal.add_types-requires

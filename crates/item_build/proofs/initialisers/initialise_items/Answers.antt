@@ -8,9 +8,9 @@ use Rattle.module_arena.specs.Module.{Module}
 use Rattle.module_arena.specs.View.{module_of}
 use Rattle.module_arena.specs.WellFormed as formed
 use Rattle.name_rules.specs.ModuleOf.{structs_in, variable_in}
-use Rattle.type_build.specs.Holding.{entries}
-use Rattle.buildable.specs.Entries.{CanDeclare, CanComplete}
-use Rattle.type_build.specs.Declarations.{without_initialiser}
+use Rattle.item_build.specs.Types.Holding.{entries}
+use Rattle.item_build.specs.Buildable.Entries.{CanDeclare, CanComplete}
+use Rattle.item_build.specs.Types.Declarations.{without_initialiser}
 use Rattle.item_build.specs.Declaring.{declared_variables, counts_in}
 use Rattle.item_build.specs.Completing.{initialised_in, variable_behind, with_initialisers}
 use Rattle.item_build.proofs.Completed.{initialisers_more, initialisers_named, no_initialisers, next_is_unset}

@@ -2,7 +2,7 @@ use Rattle.std.proofs.Common.{inl, inr, refl, rules, subst, ap, Err}
 use Rattle.std.specs.Prelude.{Contains}
 use Rattle.ir_syntax.specs.View.{item_view}
 use Rattle.type_table.specs.Types.{names}
-use Rattle.type_build.proofs.Growing.{grows_not}
+use Rattle.item_build.proofs.OnTypes.Growing.{grows_not}
 use Rattle.item_build.specs.Named.{IsNewStruct}
 use Rattle.item_build.proofs.Partly.{same_structs, new_structs}
 use Rattle.item_build.proofs.naming.name_item.Goals as goal

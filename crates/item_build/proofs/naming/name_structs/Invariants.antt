@@ -3,7 +3,7 @@ use Rattle.ir_syntax.specs.View.{items_view}
 use Rattle.type_table.specs.Types.{structs}
 use Rattle.module_arena.specs.View.{module_of}
 use Rattle.name_rules.specs.ModuleOf.{structs_in}
-use Rattle.type_build.specs.Holding.{entries}
+use Rattle.item_build.specs.Types.Holding.{entries}
 use Rattle.item_build.specs.Named.{named_table}
 use Rattle.item_build.specs.Partly.{with_structs}
 use Rattle.item_build.proofs.naming.name_structs.Given as goal

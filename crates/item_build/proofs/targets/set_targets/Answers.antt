@@ -8,9 +8,9 @@ use Rattle.module_arena.specs.Module.{Module}
 use Rattle.module_arena.specs.View.{module_of}
 use Rattle.module_arena.specs.WellFormed as formed
 use Rattle.name_rules.specs.ModuleOf.{structs_in, alias_in}
-use Rattle.type_build.specs.Holding.{entries}
-use Rattle.buildable.specs.Entries.{CanComplete}
-use Rattle.type_build.specs.Declarations.{without_target}
+use Rattle.item_build.specs.Types.Holding.{entries}
+use Rattle.item_build.specs.Buildable.Entries.{CanComplete}
+use Rattle.item_build.specs.Types.Declarations.{without_target}
 use Rattle.item_build.specs.Declaring.{declared_aliases, counts_in}
 use Rattle.item_build.specs.Completing.{targeted_in, alias_behind, with_targets}
 use Rattle.item_build.proofs.Completed.{targets_more, targets_named, no_targets}

@@ -3,7 +3,7 @@ use Rattle.std.specs.Prelude.{filter_map}
 use Rattle.ir_syntax.specs.View.{items_view}
 use Rattle.module_arena.specs.View.{module_of}
 use Rattle.name_rules.specs.ModuleOf.{alias_in}
-use Rattle.type_build.specs.Declarations.{AreUntargeted}
+use Rattle.item_build.specs.Types.Declarations.{AreUntargeted}
 use Rattle.item_build.specs.Completing.{with_targets}
 use Rattle.item_build.proofs.targets.set_targets.Given as goal
 

@@ -1,6 +1,6 @@
 use Rattle.std.proofs.Common.{◌≡◌, ◌^◌, ◌<◌, sym, ◌∙◌, subst, arith}
 use Rattle.ir_base.specs.Name.{IsName}
-use Rattle.module_linker.specs.Rename.{dotted}
+use Rattle.link_rules.specs.Rename.{dotted}
 use Rattle.link_names.proofs.Numbers.{dotted_is, dotted_is_name}
 use Rattle.link_names.proofs.numbered.dotted.Goals as goal
 use Rattle.link_names.proofs.numbered.dotted.Goals.{In_ok-extend}

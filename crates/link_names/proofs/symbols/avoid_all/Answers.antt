@@ -1,7 +1,7 @@
 use Rattle.std.proofs.Common.{All, map, ap, sym, ◌∙◌, subst}
 use Rattle.linkage_rules.specs.Globals.{name_of}
 use Rattle.linkage_rules.specs.Ids.{IsEntryId, modules, seen}
-use Rattle.module_linker.specs.Rename.{all_names}
+use Rattle.link_rules.specs.Rename.{all_names}
 use Rattle.link_names.proofs.Avoided.{names_are, on_ok}
 use Rattle.link_names.proofs.symbols.avoid_all.Goals as goal
 

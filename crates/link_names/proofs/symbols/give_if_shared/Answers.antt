@@ -1,6 +1,6 @@
 use Rattle.std.proofs.Common.{◌∷◌, [], OnOk, sym, subst}
 use Rattle.linkage_rules.specs.declared.symbol.Symbol.{Symbol}
-use Rattle.module_linker.specs.Rename.{shared_names}
+use Rattle.link_rules.specs.Rename.{shared_names}
 use Rattle.link_names.specs.Naming.{HasMore}
 use Rattle.link_names.proofs.Avoided.{nothing_more}
 use Rattle.link_names.proofs.symbols.give_if_shared.Goals as goal

@@ -1,7 +1,7 @@
 use Rattle.std.proofs.Common.{◌≡◌, Some, slice_get, length, take, refl, sym, ap, ◌∙◌, subst, arith}
 use Rattle.std.proofs.lemmas.Option.{slice_get-get_or}
 use Rattle.linkage_rules.proofs.Steps.{take_whole}
-use Rattle.module_linker.specs.Rename.{shared_names}
+use Rattle.link_rules.specs.Rename.{shared_names}
 use Rattle.link_names.specs.Naming.{HasMore}
 use Rattle.link_names.proofs.Avoided.{nothing_more, symbol_given}
 use Rattle.link_names.proofs.symbols.give_shared.Goals as goal

@@ -1,5 +1,5 @@
 use Rattle.std.proofs.Common.{◌≡◌, take}
-use Rattle.module_linker.specs.Rename.{shared_names}
+use Rattle.link_rules.specs.Rename.{shared_names}
 use Rattle.link_names.specs.Naming.{HasMore}
 use Rattle.link_names.proofs.symbols.give_shared.Given as goal
 

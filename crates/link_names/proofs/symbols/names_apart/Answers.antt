@@ -3,7 +3,7 @@ use Rattle.std.proofs.lemmas.Option.{slice_get-get_or}
 use Rattle.module_arena.specs.Module.{Bytes}
 use Rattle.linkage_rules.specs.Ids.{modules}
 use Rattle.linkage_rules.specs.Lists.{has}
-use Rattle.module_linker.specs.Rename.{all_names, base_of, with_given_names, renaming, shared_names}
+use Rattle.link_rules.specs.Rename.{all_names, base_of, with_given_names, renaming, shared_names}
 use Rattle.link_names.specs.Naming.{TakenNames}
 use Rattle.link_names.proofs.Given.{named_all, named_end, named_more, new_ones, same_behind_none}
 use Rattle.link_names.proofs.symbols.names_apart.Goals as goal

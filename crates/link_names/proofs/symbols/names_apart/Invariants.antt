@@ -2,7 +2,7 @@ use Rattle.std.proofs.Common.{◌≡◌, ◌++◌, drop, map}
 use Rattle.linkage_rules.specs.Ids.{modules}
 use Rattle.module_arena.specs.Module.{Bytes}
 use Rattle.linkage_rules.specs.declared.symbol.Symbol.{Symbol}
-use Rattle.module_linker.specs.Rename.{base_of, all_names, with_given_names, renaming}
+use Rattle.link_rules.specs.Rename.{base_of, all_names, with_given_names, renaming}
 use Rattle.link_names.specs.Naming.{SameNames}
 use Rattle.link_names.proofs.symbols.names_apart.Given as goal
 

@@ -1,8 +1,8 @@
 use Rattle.std.proofs.Common.{◌≡◌, true, subst}
 use Rattle.std.specs.Prelude.{is_some}
 use Rattle.linkage_rules.specs.Ids.{modules}
-use Rattle.linked_symbols.specs.Meanings.{bound_view}
-use Rattle.linked_symbols.proofs.Told.{definition_known}
+use Rattle.linkage_rules.specs.Resolving.Meanings.{bound_view}
+use Rattle.linkage_rules.proofs.OnResolving.Told.{definition_known}
 use Rattle.module_table.proofs.meaning.add_bound.Goals as goal
 
 pub name-requires : goal.name-requires

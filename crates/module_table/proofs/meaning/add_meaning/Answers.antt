@@ -1,7 +1,7 @@
 use Rattle.std.proofs.Common.{sym, ap, ◌∙◌}
 use Rattle.std.specs.Option.{option_copied}
 use Rattle.linkage_rules.specs.Ids.{modules}
-use Rattle.linked_symbols.proofs.Told.{is_seen}
+use Rattle.linkage_rules.proofs.OnResolving.Told.{is_seen}
 use Rattle.module_table.proofs.meaning.add_meaning.Goals as goal
 
 pub add_bound-requires : goal.add_bound-requires

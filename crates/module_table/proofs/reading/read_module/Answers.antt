@@ -1,5 +1,5 @@
 use Rattle.std.proofs.Common.{arith}
-use Rattle.reads_narrow.proofs.Items.{are_narrow}
+use Rattle.ir_resolve.proofs.OnReadsNarrow.Items.{are_narrow}
 use Rattle.module_table.proofs.Bytes.{all_bytes}
 use Rattle.module_table.proofs.reading.read_module.Goals as goal
 

@@ -3,7 +3,7 @@ use Rattle.std.proofs.lemmas.List.{length-map}
 use Rattle.ir_syntax.specs.declared.item.Item.{Item}
 use Rattle.ir_syntax.specs.View.{item_view}
 use Rattle.name_rules.specs.ModuleOf.{struct_in, variable_in, function_in, alias_in}
-use Rattle.struct_order.proofs.Gathered.{items_more}
+use Rattle.type_judge.proofs.OnOrder.Gathered.{items_more}
 use Rattle.name_judge.proofs.Counted.{below, counts_more}
 use Rattle.name_judge.proofs.counts.counts_of.Goals as goal
 

@@ -1,7 +1,7 @@
 use Rattle.std.proofs.Common.{subst, sym, List, map}
 use Rattle.std.specs.Prelude.{flat_map}
-use Rattle.ir_constants.specs.declared.ty.Type as the_type
-use Rattle.ir_constants.specs.View.{type_view}
+use Rattle.ir_phrases.specs.declared.constants.ty.Type as the_type
+use Rattle.ir_phrases.specs.Constants.View.{type_view}
 use Rattle.ir_syntax.specs.declared.item.WrittenAliasType.{WrittenAliasType}
 use Rattle.ir_syntax.specs.View.{alias_type_view}
 use Rattle.name_rules.specs.Breaks.{alias_type_demands}

@@ -6,7 +6,7 @@ use Rattle.ir_syntax.specs.declared.item.WrittenVariable as the_variable
 use Rattle.ir_syntax.specs.declared.item.WrittenAlias as the_alias
 use Rattle.ir_syntax.specs.declared.item.Declaration as the_declaration
 use Rattle.ir_syntax.specs.declared.item.Definition as the_definition
-use Rattle.ir_instructions.specs.View.{block_view}
+use Rattle.ir_phrases.specs.Instructions.View.{block_view}
 use Rattle.ir_syntax.specs.Functions.{parameter_types}
 use Rattle.ir_syntax.specs.View.{item_view, body_view, variable_view, alias_view, head_view, parameter_view}
 use Rattle.name_rules.specs.Breaks.{struct_name, global_name, source_place, layout_place, triple_place, variable_demands, alias_demands, head_demands, item_demands}

@@ -2,7 +2,7 @@ use Rattle.std.proofs.Common.{◌+◌, ◌<◌, ◌∙◌, arith, length, sym, s
 use Rattle.std.proofs.lemmas.Result.{err_from_is_err_and}
 use Rattle.ir_syntax.specs.Tree.{ItemTree}
 use Rattle.ir_syntax.specs.View.{items_view}
-use Rattle.struct_order.proofs.Gathered.{items_more}
+use Rattle.type_judge.proofs.OnOrder.Gathered.{items_more}
 use Rattle.type_judge.specs.Gathered.{known_of}
 use Rattle.name_judge.specs.Seen.{AreKept, IsSeen}
 use Rattle.type_judge.proofs.Parts.{leads_start}

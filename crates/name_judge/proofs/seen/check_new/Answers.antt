@@ -1,5 +1,5 @@
 use Rattle.std.proofs.Common.{◌≡◌, ap, sym, ◌∙◌, List, ℕ, bytes_eq, cond, Some, None}
-use Rattle.name_table.specs.Entries.{value_of}
+use Rattle.type_table.specs.Names.Entries.{value_of}
 use Rattle.name_judge.proofs.Firsts.{first_more}
 use Rattle.name_judge.proofs.seen.check_new.Goals as goal
 

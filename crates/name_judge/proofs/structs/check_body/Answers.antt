@@ -1,7 +1,7 @@
 use Rattle.std.proofs.Common.{subst, [], ◌∷◌, map, Bool, Ok, Err}
 use Rattle.std.proofs.lemmas.Result.{err_from_is_err_and}
-use Rattle.ir_constants.specs.Tree.{types}
-use Rattle.ir_constants.specs.View.{type_view}
+use Rattle.ir_phrases.specs.Constants.Tree.{types}
+use Rattle.ir_phrases.specs.Constants.View.{type_view}
 use Rattle.ir_syntax.specs.View.{body_view}
 use Rattle.name_rules.specs.Demand.{is_small}
 use Rattle.name_rules.specs.TypeDemands.{have_past}

@@ -5,8 +5,8 @@ use Rattle.module_arena.specs.Known.{KnowsAlias, counts}
 use Rattle.module_arena.specs.Lists.{Lists}
 use Rattle.module_arena.specs.Valid.{alias_demands}
 use Rattle.module_arena.specs.View.{module_of}
-use Rattle.type_verify.proofs.Judging.{leads_next, fails_next, leads_end}
-use Rattle.entry_rules.proofs.EntriesFound.{alias_at, alias_known, so_many_aliases}
+use Rattle.entry_verify.proofs.OnTypes.Judging.{leads_next, fails_next, leads_end}
+use Rattle.entry_verify.proofs.OnEntries.EntriesFound.{alias_at, alias_known, so_many_aliases}
 use Rattle.path_verify.proofs.all_entries.judge_aliases.Goals as goal
 
 pub judge_alias-requires : goal.judge_alias-requires

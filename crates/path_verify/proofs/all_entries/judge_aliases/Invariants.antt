@@ -2,7 +2,7 @@ use Rattle.std.proofs.Common.{drop}
 use Rattle.std.specs.Prelude.{flat_map}
 use Rattle.module_arena.specs.Valid.{alias_demands}
 use Rattle.module_arena.specs.View.{module_of}
-use Rattle.type_verify.proofs.Judging.{Leads}
+use Rattle.entry_verify.proofs.OnTypes.Judging.{Leads}
 use Rattle.path_verify.proofs.all_entries.judge_aliases.Given as goal
 
 abbrev pub invariant-aliases : goal.invariant-aliases

@@ -5,8 +5,8 @@ use Rattle.module_arena.specs.Known.{KnowsVariable}
 use Rattle.module_arena.specs.Lists.{Lists}
 use Rattle.module_arena.specs.Valid.{variable_demands}
 use Rattle.module_arena.specs.View.{module_of}
-use Rattle.type_verify.proofs.Judging.{leads_next, fails_next, leads_end}
-use Rattle.entry_rules.proofs.EntriesFound.{variable_at, variable_known, so_many_variables}
+use Rattle.entry_verify.proofs.OnTypes.Judging.{leads_next, fails_next, leads_end}
+use Rattle.entry_verify.proofs.OnEntries.EntriesFound.{variable_at, variable_known, so_many_variables}
 use Rattle.path_verify.proofs.all_entries.judge_variables.Goals as goal
 
 pub judge_variable-requires : goal.judge_variable-requires

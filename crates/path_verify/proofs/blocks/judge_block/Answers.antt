@@ -6,7 +6,7 @@ use Rattle.module_arena.specs.Changes.{function_in}
 use Rattle.module_arena.specs.InstructionRules.{is_phi}
 use Rattle.module_arena.specs.Lists.{function_blocks}
 use Rattle.module_arena.specs.View.{module_of}
-use Rattle.use_verify.specs.Uses.{instruction_in}
+use Rattle.instruction_verify.specs.Uses.Uses.{instruction_in}
 use Rattle.path_verify.specs.Ready.{block_in}
 use Rattle.path_verify.proofs.InModule.{instruction_at, name_told}
 use Rattle.path_verify.proofs.Ordered.{all_then, end_judged, instruction_fails, instruction_holds, instructions_begin}

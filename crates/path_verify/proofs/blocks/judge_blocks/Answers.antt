@@ -4,7 +4,7 @@ use Rattle.std.proofs.lemmas.Result.{err_from_is_err_and}
 use Rattle.module_arena.specs.Changes.{function_in}
 use Rattle.module_arena.specs.Lists.{function_blocks}
 use Rattle.module_arena.specs.View.{module_of}
-use Rattle.use_verify.specs.Uses.{instruction_in}
+use Rattle.instruction_verify.specs.Uses.Uses.{instruction_in}
 use Rattle.path_verify.specs.Ready.{block_in, blocks_in}
 use Rattle.path_verify.proofs.InModule.{block_at}
 use Rattle.path_verify.proofs.Ordered.{block_fails, block_holds, blocks_end}

@@ -5,8 +5,8 @@ use Rattle.module_arena.specs.Known.{KnowsAlias, counts}
 use Rattle.module_arena.specs.Lists.{Lists}
 use Rattle.module_arena.specs.Valid.{Demand, Global}
 use Rattle.module_arena.specs.View.{module_of}
-use Rattle.constant_verify.proofs.ConstantsKnown.{own_structs}
-use Rattle.type_verify.specs.Judged.{Judged, asks}
+use Rattle.entry_verify.proofs.OnConstants.ConstantsKnown.{own_structs}
+use Rattle.entry_verify.specs.Types.Judged.{Judged, asks}
 use Rattle.path_verify.proofs.Asked.{demand}
 use Rattle.path_verify.proofs.entries.judge_alias.Goals as goal
 

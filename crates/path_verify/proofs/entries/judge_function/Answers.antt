@@ -7,11 +7,11 @@ use Rattle.module_arena.specs.Lists.{Lists}
 use Rattle.module_arena.specs.Valid.{Demand, Global}
 use Rattle.module_arena.specs.View.{module_of}
 use Rattle.module_arena.specs.declared.entry.Function as the_function
-use Rattle.constant_verify.proofs.ConstantsKnown.{own_structs}
-use Rattle.type_verify.specs.Judged.{Judged, asks}
+use Rattle.entry_verify.proofs.OnConstants.ConstantsKnown.{own_structs}
+use Rattle.entry_verify.specs.Types.Judged.{Judged, asks}
 use Rattle.path_verify.specs.Heads.{head_demands}
 use Rattle.path_verify.proofs.Asked.{demand}
-use Rattle.entry_rules.proofs.EntriesFound.{function_at, function_known, some-map}
+use Rattle.entry_verify.proofs.OnEntries.EntriesFound.{function_at, function_known, some-map}
 use Rattle.path_verify.proofs.entries.judge_function.Goals as goal
 
 pub function_types_suit-requires : goal.function_types_suit-requires

@@ -4,10 +4,10 @@ use Rattle.module_arena.specs.Constants.{fits}
 use Rattle.module_arena.specs.Changes.{variable_in}
 use Rattle.module_arena.specs.EntryRules.{linkage_suits, variable_types_suit}
 use Rattle.module_arena.specs.Valid.{Demand, Global}
-use Rattle.constant_verify.proofs.ConstantsKnown.{own_structs}
-use Rattle.type_verify.specs.Judged.{Judged, asks}
+use Rattle.entry_verify.proofs.OnConstants.ConstantsKnown.{own_structs}
+use Rattle.entry_verify.specs.Types.Judged.{Judged, asks}
 use Rattle.path_verify.proofs.Asked.{demand}
-use Rattle.entry_rules.proofs.EntriesFound.{some-map}
+use Rattle.entry_verify.proofs.OnEntries.EntriesFound.{some-map}
 use Rattle.path_verify.proofs.entries.judge_variable.Goals as goal
 
 pub returns : goal.returns

@@ -5,9 +5,9 @@ use Rattle.std.proofs.lemmas.Result.{err_from_is_err_and}
 use Rattle.module_arena.specs.Changes.{function_in}
 use Rattle.module_arena.specs.Valid.{function_demands}
 use Rattle.module_arena.specs.View.{module_of}
-use Rattle.type_verify.proofs.Judging.{leads_next, fails_next, leads_end}
+use Rattle.entry_verify.proofs.OnTypes.Judging.{leads_next, fails_next, leads_end}
 use Rattle.path_verify.specs.Bodies.{turns_of}
-use Rattle.entry_rules.proofs.EntriesFound.{function_at}
+use Rattle.entry_verify.proofs.OnEntries.EntriesFound.{function_at}
 use Rattle.path_verify.proofs.Counted.{some_at, so_many_functions}
 use Rattle.path_verify.proofs.functions.judge_functions.Goals as goal
 

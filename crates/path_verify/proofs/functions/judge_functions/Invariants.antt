@@ -3,7 +3,7 @@ use Rattle.std.specs.Prelude.{flat_map, IfSome}
 use Rattle.std.specs.List.{sum_by}
 use Rattle.module_arena.specs.Valid.{function_demands}
 use Rattle.module_arena.specs.View.{module_of}
-use Rattle.type_verify.proofs.Judging.{Leads}
+use Rattle.entry_verify.proofs.OnTypes.Judging.{Leads}
 use Rattle.path_verify.specs.Bodies.{turns_of}
 use Rattle.path_verify.specs.Ready.{AreNumbers}
 use Rattle.path_verify.proofs.functions.judge_functions.Given as goal

@@ -5,9 +5,9 @@ use Rattle.module_arena.specs.View.{module_of}
 use Rattle.module_arena.specs.declared.instruction.Operand.{Operand}
 use Rattle.path_rows.specs.Operands.{end_operands_of}
 use Rattle.path_rows.specs.Numbers.{names_of}
-use Rattle.use_verify.specs.Uses.{block_named, blocks_named, ending_in}
-use Rattle.last_verify.specs.declared.local_type.LocalType.{LocalType}
-use Rattle.last_verify.specs.ValuesById.{AreLocalTypes}
+use Rattle.instruction_verify.specs.Uses.Uses.{block_named, blocks_named, ending_in}
+use Rattle.instruction_verify.specs.declared.last.local_type.LocalType.{LocalType}
+use Rattle.instruction_verify.specs.Last.ValuesById.{AreLocalTypes}
 use Rattle.path_verify.proofs.Joined.{end_last_judges}
 use Rattle.path_verify.proofs.instructions.judge_ending.Goals as goal
 

@@ -3,9 +3,9 @@ use Rattle.std.proofs.lemmas.Result.{err_from_is_err_and}
 use Rattle.module_arena.specs.Changes.{function_in}
 use Rattle.module_arena.specs.View.{module_of}
 use Rattle.path_rows.specs.Numbers.{names_of}
-use Rattle.use_verify.specs.Uses.{block_named, blocks_named, ending_in}
-use Rattle.last_verify.specs.declared.local_type.LocalType.{LocalType}
-use Rattle.last_verify.specs.ValuesById.{AreLocalTypes}
+use Rattle.instruction_verify.specs.Uses.Uses.{block_named, blocks_named, ending_in}
+use Rattle.instruction_verify.specs.declared.last.local_type.LocalType.{LocalType}
+use Rattle.instruction_verify.specs.Last.ValuesById.{AreLocalTypes}
 use Rattle.path_verify.proofs.Joined.{end_first_fails, end_last_judges, end_paths_fail}
 use Rattle.path_verify.proofs.instructions.judge_ending_in_order.Goals as goal
 

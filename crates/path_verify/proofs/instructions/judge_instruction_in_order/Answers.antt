@@ -4,9 +4,9 @@ use Rattle.module_arena.specs.Changes.{function_in}
 use Rattle.module_arena.specs.Lists.{function_blocks, value_names}
 use Rattle.module_arena.specs.View.{module_of}
 use Rattle.path_rows.specs.Numbers.{names_of}
-use Rattle.use_verify.specs.Uses.{block_named, blocks_named, instruction_in}
-use Rattle.last_verify.specs.declared.local_type.LocalType.{LocalType}
-use Rattle.last_verify.specs.ValuesById.{AreLocalTypes}
+use Rattle.instruction_verify.specs.Uses.Uses.{block_named, blocks_named, instruction_in}
+use Rattle.instruction_verify.specs.declared.last.local_type.LocalType.{LocalType}
+use Rattle.instruction_verify.specs.Last.ValuesById.{AreLocalTypes}
 use Rattle.path_verify.proofs.Joined.{first_fails, last_judges, paths_fail, phi_fails}
 use Rattle.path_verify.proofs.Listed.{classes_known, inst_within, uses_known}
 use Rattle.path_verify.proofs.Ready.{few_blocks, targets_known}

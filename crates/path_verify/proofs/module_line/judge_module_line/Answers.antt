@@ -1,8 +1,8 @@
 use Rattle.std.proofs.Common.{[], ◌∷◌, subst}
 use Rattle.module_arena.specs.Valid.{TheModule, Test}
 use Rattle.module_arena.specs.View as view
-use Rattle.type_verify.specs.declared.judged.Check.{Check}
-use Rattle.type_verify.specs.Judged.{Judged, asks}
+use Rattle.entry_verify.specs.declared.types.judged.Check.{Check}
+use Rattle.entry_verify.specs.Types.Judged.{Judged, asks}
 use Rattle.path_verify.proofs.module_line.judge_module_line.Goals as goal
 
 pub returns : goal.returns

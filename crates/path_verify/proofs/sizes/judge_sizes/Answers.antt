@@ -4,7 +4,7 @@ use Rattle.std.proofs.lemmas.Bool.{lt-ltb, le-ltb}
 use Rattle.module_arena.specs.Changes.{function_in}
 use Rattle.module_arena.specs.Functions.{is_too_large}
 use Rattle.module_arena.specs.View.{module_of}
-use Rattle.entry_rules.proofs.EntriesFound.{function_at, function_known}
+use Rattle.entry_verify.proofs.OnEntries.EntriesFound.{function_at, function_known}
 use Rattle.path_verify.specs.Verified.{told_of}
 use Rattle.path_verify.proofs.Counted.{find_past, find_here, find_end, so_many_functions}
 use Rattle.path_verify.proofs.sizes.judge_sizes.Goals as goal

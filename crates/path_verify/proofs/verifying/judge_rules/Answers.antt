@@ -4,8 +4,8 @@ use Rattle.std.proofs.lemmas.Result.{err_from_is_err_and}
 use Rattle.module_arena.specs.Lists.{Lists}
 use Rattle.module_arena.specs.Valid.{module_demands, variable_demands, alias_demands, function_demands}
 use Rattle.module_arena.specs.View.{module_of}
-use Rattle.type_verify.specs.Judged.{Judged}
-use Rattle.type_verify.proofs.Judging.{leads_past, fails_first}
+use Rattle.entry_verify.specs.Types.Judged.{Judged}
+use Rattle.entry_verify.proofs.OnTypes.Judging.{leads_past, fails_first}
 use Rattle.path_verify.proofs.verifying.judge_rules.Goals as goal
 
 pub returns-in_err-judge_variables-clause-judged : goal.returns-in_err-judge_variables-clause-judged

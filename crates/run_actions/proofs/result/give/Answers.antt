@@ -1,6 +1,6 @@
 use Rattle.std.proofs.Common.{[], ◌∷◌, ap, ◌∙◌}
 use Rattle.run_rules.specs.Frame.{moved_on, with_value}
-use Rattle.run_stack.specs.UnderWay.{changed}
+use Rattle.run_actions.specs.Stack.UnderWay.{changed}
 use Rattle.run_actions.proofs.Carried.{position_after, running_after, twice}
 use Rattle.run_actions.proofs.result.give.Goals as goal
 

@@ -1,6 +1,6 @@
 use Rattle.std.proofs.Common.{length, ap, ◌∙◌}
 use Rattle.run_rules.specs.Frame.{moved_on, with_value}
-use Rattle.run_stack.specs.UnderWay.{changed, newest}
+use Rattle.run_actions.specs.Stack.UnderWay.{changed, newest}
 use Rattle.run_actions.proofs.Carried.{position_after, running_after, twice}
 use Rattle.run_actions.proofs.Wide.{fits_from}
 use Rattle.run_actions.proofs.result.give_all.Goals as goal

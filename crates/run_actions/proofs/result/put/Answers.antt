@@ -1,7 +1,7 @@
 use Rattle.std.proofs.Common.{[], ◌∷◌, sym, ap, ◌∙◌}
 use Rattle.ir_eval.specs.declared.value.Scalar.{Scalar}
 use Rattle.run_rules.specs.Frame.{with_value}
-use Rattle.run_stack.specs.UnderWay.{changed}
+use Rattle.run_actions.specs.Stack.UnderWay.{changed}
 use Rattle.run_actions.proofs.result.put.Goals as goal
 
 pub returns-in-Int : goal.returns-in-Int

@@ -1,7 +1,7 @@
 use Rattle.std.proofs.Common.{ap, ◌∙◌}
 use Rattle.std.specs.Borrow.{Bor}
 use Rattle.run_rules.specs.Frame.{followed}
-use Rattle.run_stack.specs.UnderWay.{changed}
+use Rattle.run_actions.specs.Stack.UnderWay.{changed}
 use Rattle.run_actions.specs.declared.edge.Edge.{Edge}
 use Rattle.run_actions.specs.Edges.{way_of}
 use Rattle.run_actions.proofs.Going.{goes_then, goes_else}

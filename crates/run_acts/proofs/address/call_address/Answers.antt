@@ -1,10 +1,10 @@
 use Rattle.module_arena.specs.View.{module_of}
 use Rattle.run_actions.specs.Carried.{core_of}
-use Rattle.run_flat.specs.Flat.{signature_of}
+use Rattle.run_decode.specs.Flat.Flat.{signature_of}
 use Rattle.run_names.specs.declared.callee.CalleeRef.TheVariants as callees
 use Rattle.run_names.specs.Told.{alone, callee_seen}
 use Rattle.run_rules.specs.Look.{look, table}
-use Rattle.typed_look.specs.Typings.{typing_of}
+use Rattle.typed_runs.specs.Look.Typings.{typing_of}
 use Rattle.run_acts.specs.Made.{shapes_of}
 use Rattle.run_acts.proofs.AsCallee.{code_called, no_pointer_called, nothing_called, row_called, told_typed}
 use Rattle.run_acts.proofs.Readiness.{keeps_none}

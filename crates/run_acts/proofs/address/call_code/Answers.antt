@@ -1,7 +1,7 @@
 use Rattle.module_arena.specs.View.{module_of}
 use Rattle.run_names.specs.Told.{alone}
 use Rattle.run_rules.specs.Look.{look, table}
-use Rattle.typed_look.specs.Typings.{typing_of}
+use Rattle.typed_runs.specs.Look.Typings.{typing_of}
 use Rattle.run_acts.proofs.AsCallee.{code_enters, code_fits, code_refused, ready_through}
 use Rattle.run_acts.proofs.FirstCalls.{code_kept}
 use Rattle.run_acts.proofs.Readiness.{keeps_then, ready_kept}

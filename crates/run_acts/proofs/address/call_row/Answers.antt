@@ -1,5 +1,5 @@
 use Rattle.std.proofs.Common.{length, sym, subst, ℕ}
-use Rattle.run_program.specs.Loaded.{IsReady}
+use Rattle.run_acts.specs.Program.Loaded.{IsReady}
 use Rattle.run_acts.proofs.Hosts.{parameters_in, parameters_known, returns_known, row_answers, row_may, row_refused, shapes_in, shapes_known}
 use Rattle.run_acts.proofs.address.call_row.Goals as goal
 

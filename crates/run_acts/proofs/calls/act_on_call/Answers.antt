@@ -3,12 +3,12 @@ use Rattle.ir_eval.specs.declared.value.Scalar.{Scalar}
 use Rattle.run_acts.specs.declared.next.Next.{Next}
 use Rattle.run_rules.specs.State.{Due}
 use Rattle.run_actions.specs.Operands.{IsThere}
-use Rattle.run_flat.specs.declared.action.Action.TheVariants as flat
-use Rattle.run_flat.specs.Flat.{action_of}
-use Rattle.run_body.specs.Bodies.{Decoded}
-use Rattle.run_program.specs.Loaded.{IsReady}
+use Rattle.run_decode.specs.declared.flat.action.Action.TheVariants as flat
+use Rattle.run_decode.specs.Flat.Flat.{action_of}
+use Rattle.run_decode.specs.Body.Bodies.{Decoded}
+use Rattle.run_acts.specs.Program.Loaded.{IsReady}
 use Rattle.run_acts.specs.Made.{StaysReady}
-use Rattle.run_classes.proofs.Placed.{on_ok}
+use Rattle.run_acts.proofs.OnClasses.Placed.{on_ok}
 use Rattle.run_acts.specs.Acting.{CameTo, MayActIn}
 use Rattle.run_acts.proofs.AskedCalls.{arguments_read, call_here, if_ok, keeps_itself, pools_of, ready_behind, still_ready}
 use Rattle.run_acts.proofs.calls.act_on_call.Goals as goal

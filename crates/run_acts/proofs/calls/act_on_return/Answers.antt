@@ -1,15 +1,15 @@
 use Rattle.std.proofs.Common.{◌≡◌, ℕ, List, [], true, sym, ◌∙◌, subst}
 use Rattle.run_rules.specs.State.{Due}
 use Rattle.run_rules.specs.Wants.{is_wide, wants_memory}
-use Rattle.run_flat.specs.declared.action.Action.TheVariants as flat
-use Rattle.run_flat.specs.declared.pools.Pools.{Pools}
-use Rattle.run_flat.specs.Flat.{action_of}
-use Rattle.run_flat.specs.Spans.{IsSpanIn}
-use Rattle.run_body.specs.Bodies.{Decoded}
-use Rattle.run_program.specs.Loaded.{IsReady}
+use Rattle.run_decode.specs.declared.flat.action.Action.TheVariants as flat
+use Rattle.run_decode.specs.declared.flat.pools.Pools.{Pools}
+use Rattle.run_decode.specs.Flat.Flat.{action_of}
+use Rattle.run_decode.specs.Flat.Spans.{IsSpanIn}
+use Rattle.run_decode.specs.Body.Bodies.{Decoded}
+use Rattle.run_acts.specs.Program.Loaded.{IsReady}
 use Rattle.run_acts.specs.declared.next.Next.{Next}
 use Rattle.run_acts.specs.Said.{IsLast}
-use Rattle.run_classes.proofs.Placed.{on_err}
+use Rattle.run_acts.proofs.OnClasses.Placed.{on_err}
 use Rattle.run_acts.specs.Acting.{CameTo, MayActIn}
 use Rattle.run_acts.proofs.AskedCalls.{allocas_known, given_fit, given_there, if_ok, pools_of, ready_returned, return_is, return_wants, spanned_by}
 use Rattle.run_acts.proofs.calls.act_on_return.Goals as goal

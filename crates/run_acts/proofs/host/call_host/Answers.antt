@@ -2,7 +2,7 @@ use Rattle.std.proofs.Common.{map, ap, ◌∙◌}
 use Rattle.run_actions.specs.Carried.{core_of}
 use Rattle.run_rules.specs.Calls.{answered}
 use Rattle.run_rules.specs.Host.{host}
-use Rattle.run_shapes.specs.Shapes.{shape_in}
+use Rattle.run_names.specs.Shapes.Shapes.{shape_in}
 use Rattle.run_acts.proofs.Hosts.{asked_are, takes_result, told_by}
 use Rattle.run_acts.proofs.host.call_host.Goals as goal
 

@@ -1,8 +1,8 @@
 use Rattle.std.proofs.Common.{◌≡◌, length, Option, subst, sym}
 use Rattle.ir_intrinsics.specs.declared.outcome.Outcome.{Outcome}
-use Rattle.run_host.specs.Answers.{leaves_of}
+use Rattle.run_names.specs.Host.Answers.{leaves_of}
 use Rattle.run_rules.specs.Frame.{with_value}
-use Rattle.run_stack.specs.UnderWay.{changed, Fits, newest}
+use Rattle.run_actions.specs.Stack.UnderWay.{changed, Fits, newest}
 use Rattle.run_acts.proofs.Hosts.{none_given}
 use Rattle.run_acts.proofs.host.give.Goals as goal
 

@@ -2,7 +2,7 @@ use Rattle.std.proofs.Common.{◌∷◌, length, Option, ◌∙◌, ap, subst, s
 use Rattle.std.specs.Option.{option_to_list}
 use Rattle.ir_eval.specs.declared.value.Scalar.{Scalar}
 use Rattle.run_rules.specs.Frame.{with_value}
-use Rattle.run_stack.specs.UnderWay.{changed, Fits, newest}
+use Rattle.run_actions.specs.Stack.UnderWay.{changed, Fits, newest}
 use Rattle.run_acts.proofs.host.give_leaves.Goals as goal
 
 pub set_all-requires : goal.set_all-requires

@@ -1,8 +1,8 @@
 use Rattle.std.proofs.Common.{◌≡◌, ap, ◌∙◌, subst, sym}
-use Rattle.host_calls.specs.Made.{EndsOrReads}
+use Rattle.run_actions.specs.Hosts.Made.{EndsOrReads}
 use Rattle.run_actions.specs.Carried.{core_of}
-use Rattle.run_host.specs.Answers.{answer_of, leaves_of}
-use Rattle.run_host.specs.declared.answer.HostAnswer.{HostAnswer}
+use Rattle.run_names.specs.Host.Answers.{answer_of, leaves_of}
+use Rattle.run_names.specs.declared.host.answer.HostAnswer.{HostAnswer}
 use Rattle.run_rules.specs.Calls.{answered}
 use Rattle.run_rules.specs.State as states
 use Rattle.run_acts.specs.declared.next.Next.{Next}

@@ -1,5 +1,5 @@
 use Rattle.ir_memory.specs.Memory.{no_blocks}
-use Rattle.run_flat.specs.Flat.{action_of}
+use Rattle.run_decode.specs.Flat.Flat.{action_of}
 use Rattle.run_acts.specs.declared.next.Next.TheVariants.{Goes}
 use Rattle.run_acts.proofs.Coming.{carried_comes}
 use Rattle.run_acts.proofs.Staying.{carried_stays, comes_inside, value_is_inner}

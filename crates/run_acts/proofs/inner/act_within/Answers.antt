@@ -3,7 +3,7 @@ use Rattle.module_arena.specs.Lists.{Lists}
 use Rattle.run_acts.specs.declared.next.Next.{Next}
 use Rattle.run_acts.specs.declared.next.Next.TheVariants.{Goes}
 use Rattle.run_rules.specs.Wants.{wants_memory}
-use Rattle.run_flat.specs.Flat.{action_of}
+use Rattle.run_decode.specs.Flat.Flat.{action_of}
 use Rattle.run_acts.specs.Acting.{ComesInside}
 use Rattle.run_acts.proofs.AskedCalls.{never_passed, outer_matched}
 use Rattle.run_acts.proofs.Coming.{accesses_want, acts_come, carried_comes, if_ok_all, on_err_all}

@@ -2,15 +2,15 @@ use Rattle.std.proofs.Common.{◌≡◌, [], length, None, Option, refl, Some, s
 use Rattle.ir_memory.specs.Memory.{Blocks}
 use Rattle.module_arena.specs.Lists.{Lists}
 use Rattle.run_rules.specs.Wants.{wants_memory}
-use Rattle.run_flat.specs.declared.action.Action.{Action}
-use Rattle.run_flat.specs.declared.pools.Pools.{Pools}
-use Rattle.run_flat.specs.Flat.{action_of}
-use Rattle.run_body.specs.Bodies.{Decoded}
-use Rattle.run_program.specs.Loaded.{Loaded}
-use Rattle.run_stack.specs.UnderWay.{UnderWay}
+use Rattle.run_decode.specs.declared.flat.action.Action.{Action}
+use Rattle.run_decode.specs.declared.flat.pools.Pools.{Pools}
+use Rattle.run_decode.specs.Flat.Flat.{action_of}
+use Rattle.run_decode.specs.Body.Bodies.{Decoded}
+use Rattle.run_acts.specs.Program.Loaded.{Loaded}
+use Rattle.run_actions.specs.Stack.UnderWay.{UnderWay}
 use Rattle.run_acts.specs.declared.next.Next.{Next}
-use Rattle.run_classes.specs.May.{MayAct}
-use Rattle.run_classes.proofs.Placed.{on_err}
+use Rattle.run_acts.specs.Classes.May.{MayAct}
+use Rattle.run_acts.proofs.OnClasses.Placed.{on_err}
 use Rattle.run_acts.specs.Acting.{ActsInside, ComesInside, MayActBy, MayActIn, WantsHere}
 use Rattle.run_acts.proofs.AskedCalls.{comes_for, if_ok, may_act, may_act_by, outer_here, stands_by, wants_for}
 use Rattle.run_acts.proofs.instruction.act_inside.Goals as goal

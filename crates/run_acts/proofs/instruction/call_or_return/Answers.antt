@@ -1,12 +1,12 @@
 use Rattle.std.proofs.Common.{List, refl, ◌∙◌, subst}
 use Rattle.ir_memory.proofs.Changed.{on_err as wanted}
 use Rattle.run_rules.specs.State.{Due}
-use Rattle.run_flat.specs.declared.action.Action.{Action}
-use Rattle.run_flat.specs.declared.action.Action.TheVariants as flat
-use Rattle.run_flat.specs.Flat.{action_of}
+use Rattle.run_decode.specs.declared.flat.action.Action.{Action}
+use Rattle.run_decode.specs.declared.flat.action.Action.TheVariants as flat
+use Rattle.run_decode.specs.Flat.Flat.{action_of}
 use Rattle.run_acts.specs.declared.next.Next.{Next}
 use Rattle.run_acts.specs.Said.{IsLast}
-use Rattle.run_classes.proofs.Placed.{on_err}
+use Rattle.run_acts.proofs.OnClasses.Placed.{on_err}
 use Rattle.run_acts.specs.Acting.{ActsFor, MayActIn, WantsHere}
 use Rattle.run_acts.proofs.AskedCalls.{acts_for, if_ok, keeps_itself, may_act_in, none_outer, some_body, stands, wants_for, written_none}
 use Rattle.run_acts.proofs.instruction.call_or_return.Goals as goal

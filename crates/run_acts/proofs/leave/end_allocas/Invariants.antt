@@ -1,5 +1,5 @@
 use Rattle.std.proofs.Common.{length}
-use Rattle.run_stack.specs.UnderWay.{newest}
+use Rattle.run_actions.specs.Stack.UnderWay.{newest}
 use Rattle.run_acts.proofs.Leaving.{IsEnding}
 use Rattle.run_acts.proofs.leave.end_allocas.Given as goal
 

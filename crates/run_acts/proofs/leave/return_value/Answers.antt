@@ -1,6 +1,6 @@
 use Rattle.std.proofs.Common.{List, subst}
 use Rattle.ir_eval.specs.declared.value.Scalar.{Scalar}
-use Rattle.run_accesses.proofs.Storing.{leaves_read}
+use Rattle.run_actions.proofs.OnAccesses.Storing.{leaves_read}
 use Rattle.run_acts.specs.Said.{IsReturned}
 use Rattle.run_acts.proofs.leave.return_value.Goals as goal
 

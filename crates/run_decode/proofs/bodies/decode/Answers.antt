@@ -5,10 +5,10 @@ use Rattle.module_arena.specs.Lists.{Lists}
 use Rattle.module_arena.specs.Valid.{IsValid}
 use Rattle.module_arena.specs.View.{module_of}
 use Rattle.module_arena.specs.WellFormed.{IsWellFormed}
-use Rattle.run_flat.specs.declared.action.Action.{Action}
-use Rattle.run_flat.specs.Flat.{IsWithin}
-use Rattle.run_flat.specs.Grown.{no_pools}
-use Rattle.run_signatures.specs.Numbers.{AreNumbered, IsNumbered}
+use Rattle.run_decode.specs.declared.flat.action.Action.{Action}
+use Rattle.run_decode.specs.Flat.Flat.{IsWithin}
+use Rattle.run_decode.specs.Flat.Grown.{no_pools}
+use Rattle.run_decode.specs.Signatures.Numbers.{AreNumbered, IsNumbered}
 use Rattle.run_decode.proofs.Rowed.{all_rows_in, body_is, code_there, function_suits, suits_there}
 use Rattle.run_decode.proofs.bodies.decode.Goals as goal
 

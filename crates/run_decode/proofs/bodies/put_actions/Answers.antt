@@ -1,8 +1,8 @@
 use Rattle.std.proofs.Common.{List, map, subst, ◌∙◌, arith}
 use Rattle.std.proofs.lemmas.List.{take_all}
 use Rattle.module_arena.specs.declared.instruction.Inst.{Inst}
-use Rattle.run_flat.proofs.Growth.{grows_none, grows_then}
-use Rattle.run_signatures.proofs.Numbered.{numbers_none, numbers_then}
+use Rattle.run_decode.proofs.OnFlat.Growth.{grows_none, grows_then}
+use Rattle.run_decode.proofs.OnSignatures.Numbered.{numbers_none, numbers_then}
 use Rattle.run_decode.specs.Operations.{action_from}
 use Rattle.run_decode.specs.Rows.{AddsActions}
 use Rattle.run_decode.proofs.Rowed.{adds_more, adds_nothing}

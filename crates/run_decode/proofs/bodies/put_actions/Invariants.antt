@@ -1,6 +1,6 @@
 use Rattle.std.proofs.Common.{map, take}
-use Rattle.run_flat.specs.Grown.{Grows}
-use Rattle.run_signatures.specs.Numbers.{AreNumbered, Numbers}
+use Rattle.run_decode.specs.Flat.Grown.{Grows}
+use Rattle.run_decode.specs.Signatures.Numbers.{AreNumbered, Numbers}
 use Rattle.run_decode.specs.Operations.{action_from}
 use Rattle.run_decode.specs.Rows.{AddsActions}
 use Rattle.run_decode.proofs.bodies.put_actions.Given as goal

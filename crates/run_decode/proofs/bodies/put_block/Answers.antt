@@ -1,8 +1,8 @@
 use Rattle.std.proofs.Common.{All, List, map, sym, subst}
 use Rattle.module_arena.specs.declared.instruction.Inst.{Inst}
-use Rattle.run_flat.proofs.Growth.{grows_then}
-use Rattle.run_signatures.proofs.Numbered.{calls_numbered, numbers_none}
-use Rattle.run_operands.specs.Suits.{Suits}
+use Rattle.run_decode.proofs.OnFlat.Growth.{grows_then}
+use Rattle.run_decode.proofs.OnSignatures.Numbered.{calls_numbered, numbers_none}
+use Rattle.run_decode.specs.Operands.Suits.{Suits}
 use Rattle.run_decode.specs.Operations.{action_from}
 use Rattle.run_decode.specs.Rows.{AddsActions}
 use Rattle.run_decode.proofs.Rowed.{block_longer, block_suits, block_within, on_any, row_put, same_row}

@@ -4,8 +4,8 @@ use Rattle.std.specs.List.{AllZip}
 use Rattle.std.specs.Prelude.{slice_get}
 use Rattle.module_arena.specs.declared.entry.Block as the_block
 use Rattle.module_arena.specs.Lists.{function_blocks}
-use Rattle.run_flat.specs.declared.leaf.Span.{Span}
-use Rattle.run_signatures.proofs.Numbered.{numbers_none, numbers_then}
+use Rattle.run_decode.specs.declared.flat.leaf.Span.{Span}
+use Rattle.run_decode.proofs.OnSignatures.Numbered.{numbers_none, numbers_then}
 use Rattle.run_decode.specs.Rows.{IsRow}
 use Rattle.run_decode.proofs.Rowed.{block_there, rows_more}
 use Rattle.run_decode.proofs.bodies.put_blocks.Goals as goal

@@ -1,8 +1,8 @@
 use Rattle.std.proofs.Common.{All, take}
 use Rattle.std.specs.List.{AllZip}
 use Rattle.module_arena.specs.Lists.{function_blocks}
-use Rattle.run_flat.specs.Flat.{IsWithin}
-use Rattle.run_signatures.specs.Numbers.{AreNumbered, Numbers}
+use Rattle.run_decode.specs.Flat.Flat.{IsWithin}
+use Rattle.run_decode.specs.Signatures.Numbers.{AreNumbered, Numbers}
 use Rattle.run_decode.specs.Rows.{IsRow}
 use Rattle.run_decode.proofs.bodies.put_blocks.Given as goal
 

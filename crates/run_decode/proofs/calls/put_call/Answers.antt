@@ -1,5 +1,5 @@
-use Rattle.run_flat.proofs.Growth.{grows_then}
-use Rattle.run_signatures.proofs.Numbered.{calls_numbered, numbers_none}
+use Rattle.run_decode.proofs.OnFlat.Growth.{grows_then}
+use Rattle.run_decode.proofs.OnSignatures.Numbered.{calls_numbered, numbers_none}
 use Rattle.run_decode.proofs.Called.{call_meant}
 use Rattle.run_decode.proofs.calls.put_call.Goals as goal
 

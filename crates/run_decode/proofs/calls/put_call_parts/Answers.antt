@@ -1,10 +1,10 @@
 use Rattle.std.proofs.Common.{◌++◌, ℕ, List, Some, map, flat_map, refl, ap, ◌∙◌, subst}
 use Rattle.module_arena.specs.declared.instruction.Operand.{Operand}
 use Rattle.run_rules.specs.Scope.{operand_in}
-use Rattle.run_flat.specs.declared.action.CallParts.{CallParts}
-use Rattle.run_flat.specs.Grown.{AreLeaves}
-use Rattle.run_scopes.specs.Scopes.{operand_of, scope_in}
-use Rattle.run_signatures.specs.Met.{written_as}
+use Rattle.run_decode.specs.declared.flat.action.CallParts.{CallParts}
+use Rattle.run_decode.specs.Flat.Grown.{AreLeaves}
+use Rattle.run_decode.specs.Scopes.Scopes.{operand_of, scope_in}
+use Rattle.run_decode.specs.Signatures.Met.{written_as}
 use Rattle.run_decode.proofs.Called.{parts_called, parts_grow, parts_numbered}
 use Rattle.run_decode.proofs.calls.put_call_parts.Goals as goal
 

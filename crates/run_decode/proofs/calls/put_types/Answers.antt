@@ -1,7 +1,7 @@
 use Rattle.std.proofs.Common.{List, ◌++◌, append-nil, map, sym, ap, ◌∙◌, arith}
 use Rattle.std.proofs.lemmas.List.{take_all}
 use Rattle.module_arena.specs.declared.instruction.Operand.{Operand}
-use Rattle.run_flat.proofs.Growth.{adds_none, adds_then, types_add}
+use Rattle.run_decode.proofs.OnFlat.Growth.{adds_none, adds_then, types_add}
 use Rattle.run_decode.proofs.Called.{types_in, types_more, types_put}
 use Rattle.run_decode.proofs.calls.put_types.Goals as goal
 

@@ -1,5 +1,5 @@
 use Rattle.std.proofs.Common.{◌≡◌, ◌++◌, map, take}
-use Rattle.run_flat.specs.Grown.{Adds}
+use Rattle.run_decode.specs.Flat.Grown.{Adds}
 use Rattle.run_decode.proofs.calls.put_types.Given as goal
 
 -- the types so far are there

@@ -1,7 +1,7 @@
-use Rattle.run_scopes.proofs.Answered.{on_also}
-use Rattle.run_flat.specs.Grown.{Adds, Grows}
-use Rattle.run_signatures.specs.Numbers.{AreNumbered}
-use Rattle.run_signatures.proofs.Numbered.{calls_numbered, numbers_none}
+use Rattle.run_decode.proofs.OnScopes.Answered.{on_also}
+use Rattle.run_decode.specs.Flat.Grown.{Adds, Grows}
+use Rattle.run_decode.specs.Signatures.Numbers.{AreNumbered}
+use Rattle.run_decode.proofs.OnSignatures.Numbered.{calls_numbered, numbers_none}
 use Rattle.run_decode.proofs.instructions.put_instruction.Goals as goal
 
 pub returns-in_default-clause-grows : goal.returns-in_default-clause-grows

@@ -4,7 +4,7 @@ use Rattle.module_arena.specs.declared.instruction.Inst.{Inst}
 use Rattle.module_arena.specs.declared.instruction.Inst.TheVariants as inst
 use Rattle.module_arena.specs.declared.instruction.Insertion.{Insertion}
 use Rattle.module_arena.specs.declared.instruction.Operand.{Operand}
-use Rattle.run_operands.specs.Suits.{HasChoice, HasExtraction, HasInsertion, HasSteps, Suits}
+use Rattle.run_decode.specs.Operands.Suits.{HasChoice, HasExtraction, HasInsertion, HasSteps, Suits}
 use Rattle.run_decode.specs.Operations.{Meant}
 use Rattle.run_decode.proofs.Told.{by_load, by_store}
 use Rattle.run_decode.proofs.instructions.put_operation.Goals as goal

@@ -3,7 +3,7 @@ use Rattle.std.specs.Prelude.{unwrap_or}
 use Rattle.type_table.specs.declared.layout.Layout.{Layout}
 use Rattle.type_table.specs.Layout.{align}
 use Rattle.type_table.specs.Types.{Types}
-use Rattle.run_shapes.specs.Shapes.{shape_in}
+use Rattle.run_names.specs.Shapes.Shapes.{shape_in}
 use Rattle.run_decode.proofs.memory.align_of.Goals as goal
 
 pub returns-in-None : goal.returns-in-None

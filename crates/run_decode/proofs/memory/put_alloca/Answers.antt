@@ -3,7 +3,7 @@ use Rattle.module_arena.specs.TypeTests.{lies_in_memory}
 use Rattle.type_table.specs.declared.layout.Layout.{Layout}
 use Rattle.type_table.specs.Layout.{size}
 use Rattle.type_table.specs.Types.{Types, structs, tree}
-use Rattle.run_shapes.specs.Shapes.{shape_in}
+use Rattle.run_names.specs.Shapes.Shapes.{shape_in}
 use Rattle.run_decode.proofs.Meant.{alloca_meant}
 use Rattle.run_decode.proofs.memory.put_alloca.Goals as goal
 

@@ -1,4 +1,4 @@
-use Rattle.run_flat.proofs.Growth.{adds_then}
+use Rattle.run_decode.proofs.OnFlat.Growth.{adds_then}
 use Rattle.run_decode.proofs.Meant.{displace_meant}
 use Rattle.run_decode.proofs.memory.put_displace.Goals as goal
 

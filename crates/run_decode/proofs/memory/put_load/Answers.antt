@@ -1,9 +1,9 @@
 use Rattle.std.proofs.Common.{subst}
 use Rattle.type_table.specs.Types.{Types}
 use Rattle.run_rules.specs.Leaves.{slots}
-use Rattle.run_shapes.specs.Shapes.{shape_in}
-use Rattle.run_flat.specs.Grown.{AreSlots}
-use Rattle.run_flat.proofs.Growth.{adds_then}
+use Rattle.run_names.specs.Shapes.Shapes.{shape_in}
+use Rattle.run_decode.specs.Flat.Grown.{AreSlots}
+use Rattle.run_decode.proofs.OnFlat.Growth.{adds_then}
 use Rattle.run_decode.proofs.Meant.{load_meant}
 use Rattle.run_decode.proofs.memory.put_load.Goals as goal
 

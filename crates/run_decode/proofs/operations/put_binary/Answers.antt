@@ -1,8 +1,8 @@
 use Rattle.std.proofs.Common.{ap, ◌∙◌}
 use Rattle.type_table.specs.Types.{Types}
 use Rattle.run_rules.specs.Leaves.{width}
-use Rattle.run_shapes.specs.Shapes.{shape_in}
-use Rattle.run_flat.proofs.Growth.{adds_then}
+use Rattle.run_names.specs.Shapes.Shapes.{shape_in}
+use Rattle.run_decode.proofs.OnFlat.Growth.{adds_then}
 use Rattle.run_decode.proofs.Meant.{binary_meant}
 use Rattle.run_decode.proofs.operations.put_binary.Goals as goal
 

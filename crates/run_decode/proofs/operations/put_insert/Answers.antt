@@ -1,7 +1,7 @@
 use Rattle.std.proofs.Common.{ℕ, List, subst}
 use Rattle.run_rules.specs.Resolve.{inserted}
-use Rattle.run_flat.specs.Grown.{AreLeaves}
-use Rattle.run_scopes.specs.Scopes.{operand_of, scope_in}
+use Rattle.run_decode.specs.Flat.Grown.{AreLeaves}
+use Rattle.run_decode.specs.Scopes.Scopes.{operand_of, scope_in}
 use Rattle.run_decode.proofs.Meant.{insert_meant}
 use Rattle.run_decode.proofs.operations.put_insert.Goals as goal
 

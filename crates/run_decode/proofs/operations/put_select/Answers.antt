@@ -1,4 +1,4 @@
-use Rattle.run_flat.proofs.Growth.{adds_then}
+use Rattle.run_decode.proofs.OnFlat.Growth.{adds_then}
 use Rattle.run_decode.proofs.Meant.{select_meant}
 use Rattle.run_decode.proofs.operations.put_select.Goals as goal
 

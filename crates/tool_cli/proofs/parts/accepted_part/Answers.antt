@@ -1,6 +1,6 @@
 use Rattle.std.proofs.Common.{◌≡◌, ◌⊎◌, ℕ, false, IfErr, IfOk, List, sym, subst, ◌∙◌}
 use Rattle.module_arena.specs.View.{module_of}
-use Rattle.tool_ends.specs.declared.ended.Ended.TheVariants as ends
+use Rattle.tool_output.specs.declared.ends.ended.Ended.TheVariants as ends
 use Rattle.tool_cli.specs.Judged.{IsPartRefused, is_bitcode}
 use Rattle.tool_cli.specs.Made.{IsPart}
 use Rattle.tool_cli.proofs.Linked.{bitcode_found, bitcode_unfound, text_part, text_unfound}

@@ -1,7 +1,7 @@
 use Rattle.std.proofs.Common.{◌≡◌, Option, drop, take}
 use Rattle.std.specs.Vec.Iter.{into_iter_items}
 use Rattle.linkage_rules.specs.Ids.{modules}
-use Rattle.tool_ends.specs.declared.ended.Ended.{Ended}
+use Rattle.tool_output.specs.declared.ends.ended.Ended.{Ended}
 use Rattle.tool_cli.specs.Made.{AreParts}
 use Rattle.tool_cli.proofs.Judging.{IsJudged}
 use Rattle.tool_cli.proofs.parts.accepted_parts.Given as goal

@@ -1,4 +1,4 @@
-use Rattle.reads_narrow.proofs.Items.{are_narrow}
+use Rattle.ir_resolve.proofs.OnReadsNarrow.Items.{are_narrow}
 use Rattle.tool_cli.proofs.Verdicts.{refused_so, only_module}
 use Rattle.tool_cli.proofs.parts.accepted_text.Goals as goal
 

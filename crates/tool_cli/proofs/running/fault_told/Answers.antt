@@ -1,5 +1,5 @@
 use Rattle.std.proofs.Common.{ap, refl}
-use Rattle.tool_ends.specs.declared.ended.Ended.TheVariants.{CannotRead, CannotWrite}
+use Rattle.tool_output.specs.declared.ends.ended.Ended.TheVariants.{CannotRead, CannotWrite}
 use Rattle.tool_cli.proofs.running.fault_told.Goals as goal
 
 pub returns-in-ReadFault : goal.returns-in-ReadFault

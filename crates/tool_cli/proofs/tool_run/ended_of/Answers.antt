@@ -4,7 +4,7 @@ use Rattle.ir_base.specs.Outside.{Rose}
 use Rattle.command_line.specs.declared.command.Command.{Command}
 use Rattle.command_line.specs.declared.command.OutputName.{OutputName}
 use Rattle.command_line.specs.declared.command.WordsFault.{WordsFault}
-use Rattle.tool_ends.specs.declared.ended.Ended.TheVariants.{Memory}
+use Rattle.tool_output.specs.declared.ends.ended.Ended.TheVariants.{Memory}
 use Rattle.tool_output.specs.Outputs.{outputs}
 use Rattle.tool_cli.specs.Analyzed.{IsBeforeWork}
 use Rattle.tool_cli.specs.Causes.{IsEmptied, Stopped}

@@ -1,10 +1,10 @@
 use Rattle.std.proofs.Common.{ap, sym, subst, ◌∙◌, arith, List, ◌++◌, map, Result, Ok, Err, append_assoc}
 use Rattle.std.proofs.lemmas.Result.{err_from_is_err_and}
 use Rattle.std.specs.Global.{Vec}
-use Rattle.ir_constants.specs.declared.ty.Type as the_type
-use Rattle.ir_constants.specs.declared.constant.TypedConstant as the_typed
-use Rattle.ir_constants.specs.Tree.{ConstantTree, constants}
-use Rattle.ir_constants.specs.View.{type_view, constant_view, typed_constant_view}
+use Rattle.ir_phrases.specs.declared.constants.ty.Type as the_type
+use Rattle.ir_phrases.specs.declared.constants.constant.TypedConstant as the_typed
+use Rattle.ir_phrases.specs.Constants.Tree.{ConstantTree, constants}
+use Rattle.ir_phrases.specs.Constants.View.{type_view, constant_view, typed_constant_view}
 use Rattle.name_rules.specs.declared.fault.ResolveFault.{ResolveFault}
 use Rattle.name_rules.specs.Demand.{Demand}
 use Rattle.name_rules.specs.TypeDemands.{type_demands, constant_demands, constants_demands}

@@ -1,7 +1,7 @@
 use Rattle.std.proofs.Common.{drop, map}
 use Rattle.std.specs.Prelude.{flat_map}
-use Rattle.ir_constants.specs.Tree.{constants}
-use Rattle.ir_constants.specs.View.{typed_constant_view}
+use Rattle.ir_phrases.specs.Constants.Tree.{constants}
+use Rattle.ir_phrases.specs.Constants.View.{typed_constant_view}
 use Rattle.name_rules.specs.TypeDemands.{constants_demands}
 use Rattle.type_judge.specs.Judging.{typed_demands}
 use Rattle.type_judge.proofs.Parts.{Leads}

@@ -1,6 +1,6 @@
 use Rattle.std.proofs.Common.{ap, subst, sym, ◌∙◌, arith, take, List, ℕ, [], ◌∷◌}
 use Rattle.ir_syntax.specs.View.{item_view, items_view}
-use Rattle.struct_order.proofs.Gathered.{items_more}
+use Rattle.type_judge.proofs.OnOrder.Gathered.{items_more}
 use Rattle.type_judge.specs.Gathered.{AreGlobals, global_names}
 use Rattle.type_judge.proofs.NamesGathered.{globals-append}
 use Rattle.type_judge.proofs.known.gather_globals.Goals as goal

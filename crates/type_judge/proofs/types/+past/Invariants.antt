@@ -1,6 +1,6 @@
 use Rattle.std.proofs.Common.{◌≡◌, drop, map}
-use Rattle.ir_constants.specs.Tree.{types}
-use Rattle.ir_constants.specs.View.{type_view}
+use Rattle.ir_phrases.specs.Constants.Tree.{types}
+use Rattle.ir_phrases.specs.Constants.View.{type_view}
 use Rattle.name_rules.specs.TypeDemands.{have_past}
 use Rattle.type_judge.specs.Gathered.{known_of}
 use Rattle.type_judge.proofs.types.+past.Given as goal

@@ -1,10 +1,10 @@
 use Rattle.std.proofs.Common.{arith, ◌≡◌, ap, ◌∙◌, subst, List, [], ◌∷◌, map, Ok, Err}
 use Rattle.std.proofs.lemmas.Result.{err_from_is_err_and}
 use Rattle.std.specs.Global.{Vec}
-use Rattle.ir_constants.specs.declared.ty.Type as the_type
-use Rattle.ir_constants.specs.declared.ty.ArrayType as the_array
-use Rattle.ir_constants.specs.Tree.{ArrayType, StructType, types}
-use Rattle.ir_constants.specs.View.{type_view}
+use Rattle.ir_phrases.specs.declared.constants.ty.Type as the_type
+use Rattle.ir_phrases.specs.declared.constants.ty.ArrayType as the_array
+use Rattle.ir_phrases.specs.Constants.Tree.{ArrayType, StructType, types}
+use Rattle.ir_phrases.specs.Constants.View.{type_view}
 use Rattle.name_rules.specs.Demand.{is_small, is_length}
 use Rattle.type_judge.specs.Judging.{IsJudged}
 use Rattle.name_rules.specs.TypeDemands.{type_demands, is_past, has_past, have_past}

@@ -1,7 +1,7 @@
 use Rattle.std.proofs.Common.{drop, map}
 use Rattle.std.specs.Prelude.{flat_map}
-use Rattle.ir_constants.specs.Tree.{types}
-use Rattle.ir_constants.specs.View.{type_view}
+use Rattle.ir_phrases.specs.Constants.Tree.{types}
+use Rattle.ir_phrases.specs.Constants.View.{type_view}
 use Rattle.name_rules.specs.TypeDemands.{type_demands, types_demands}
 use Rattle.type_judge.proofs.Parts.{Leads}
 use Rattle.type_judge.specs.Gathered.{known_of}

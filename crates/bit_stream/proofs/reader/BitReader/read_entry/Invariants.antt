@@ -1,5 +1,5 @@
 use Rattle.std.proofs.Common.{◌≡◌, None, length}
-use Rattle.bits.specs.Cursor.{Found}
+use Rattle.bit_stream.specs.Bits.Cursor.{Found}
 use Rattle.bit_stream.specs.Entry.{StreamItem, NextItem, OnlyDefinitions}
 use Rattle.bit_stream.proofs.reader.BitReader.read_entry.Given as goal
 

@@ -2,7 +2,7 @@ use Rattle.std.proofs.Common.{length, sym, subst}
 use Rattle.std.proofs.lemmas.Result.{on_ok_weaker}
 use Rattle.module_arena.specs.Changes.{constant_in}
 use Rattle.module_arena.specs.Known.{counts, KnowsConst}
-use Rattle.type_build.specs.Stands.{IsConstant}
+use Rattle.item_build.specs.Types.Stands.{IsConstant}
 use Rattle.entry_copy.specs.Copies.{CopiesConstants}
 use Rattle.entry_copy.proofs.ConstantsCopied.{next_known, next_copied}
 use Rattle.entry_copy.proofs.copier.Copier.copy_constant.Goals as goal

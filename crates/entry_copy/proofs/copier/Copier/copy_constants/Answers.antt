@@ -1,5 +1,5 @@
 use Rattle.std.proofs.Common.{length, sym, subst, ap, ◌∙◌, arith}
-use Rattle.type_build.proofs.Growing.{grows_on}
+use Rattle.item_build.proofs.OnTypes.Growing.{grows_on}
 use Rattle.entry_copy.specs.Copies.{CopiesTypes}
 use Rattle.entry_copy.specs.Tables.{with_constants}
 use Rattle.entry_copy.proofs.TypesCopied.{types_still, types_kept}

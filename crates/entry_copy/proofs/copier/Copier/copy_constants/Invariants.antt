@@ -1,6 +1,6 @@
 use Rattle.std.proofs.Common.{◌≡◌, ◌≤◌, length}
 use Rattle.module_arena.specs.Module.{Bytes}
-use Rattle.type_build.specs.Stands.{Grows}
+use Rattle.item_build.specs.Types.Stands.{Grows}
 use Rattle.entry_copy.specs.Copies.{CopiesTypes, CopiesConstants}
 use Rattle.entry_copy.specs.Tables.{with_constants}
 use Rattle.entry_copy.proofs.copier.Copier.copy_constants.Given as goal

@@ -2,7 +2,7 @@ use Rattle.std.proofs.Common.{map}
 use Rattle.type_table.specs.Types.{trees}
 use Rattle.module_arena.specs.Renamed.{renamed_parameter}
 use Rattle.module_arena.specs.View.{parameter_view}
-use Rattle.type_build.specs.Parameters.{AreParameters}
+use Rattle.item_build.specs.Types.Parameters.{AreParameters}
 use Rattle.entry_copy.specs.Moved.{moved_parameter}
 use Rattle.entry_copy.proofs.TypesCopied.{with_answer, parameters_copied}
 use Rattle.entry_copy.proofs.copier.Copier.copy_parameters.Goals as goal

@@ -3,7 +3,7 @@ use Rattle.std.proofs.lemmas.Result.{on_ok_weaker}
 use Rattle.type_table.specs.Limits.{IsWithinLimits}
 use Rattle.type_table.specs.Shape.{shape}
 use Rattle.type_table.specs.Types.{Types, IsGood, IsKnown, names, trees, tree_of, structs}
-use Rattle.type_build.specs.Stands.{IsType}
+use Rattle.item_build.specs.Types.Stands.{IsType}
 use Rattle.entry_copy.specs.Copies.{CopiesTypes}
 use Rattle.entry_copy.proofs.TypesCopied.{always, next_known, next_fits, next_copied}
 use Rattle.entry_copy.proofs.copier.Copier.copy_type.Goals as goal

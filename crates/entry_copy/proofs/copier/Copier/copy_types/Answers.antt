@@ -1,6 +1,6 @@
 use Rattle.std.proofs.Common.{sym, subst, ap, ◌∙◌, arith}
-use Rattle.type_build.proofs.Growing.{grows_on}
-use Rattle.type_build.proofs.Staying.{structs_stay}
+use Rattle.item_build.proofs.OnTypes.Growing.{grows_on}
+use Rattle.item_build.proofs.OnTypes.Staying.{structs_stay}
 use Rattle.entry_copy.specs.Copies.{AllFit}
 use Rattle.entry_copy.specs.Tables.{with_types}
 use Rattle.entry_copy.proofs.copier.Copier.copy_types.Goals as goal

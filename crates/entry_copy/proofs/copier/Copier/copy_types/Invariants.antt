@@ -1,8 +1,8 @@
 use Rattle.std.proofs.Common.{◌≡◌, ◌≤◌, length, max}
 use Rattle.type_table.specs.Tree.{Structs}
 use Rattle.module_arena.specs.Module.{Bytes}
-use Rattle.type_build.specs.Fitting.{AreWithin}
-use Rattle.type_build.specs.Stands.{Grows}
+use Rattle.item_build.specs.Types.Fitting.{AreWithin}
+use Rattle.item_build.specs.Types.Stands.{Grows}
 use Rattle.entry_copy.specs.Copies.{CopiesTypes, AllFit}
 use Rattle.entry_copy.specs.Tables.{with_types}
 use Rattle.entry_copy.proofs.copier.Copier.copy_types.Given as goal

@@ -1,5 +1,5 @@
 use Rattle.std.proofs.Common.{◌≡◌, [], length}
-use Rattle.phrase_rows.specs.Row.{run_machine}
+use Rattle.ir_terminals.specs.PhraseRows.Row.{run_machine}
 use Rattle.ir_terminals.specs.Brackets.{nearest_first, role, step_by}
 use Rattle.ir_terminals.specs.Position.{tokens_left}
 use Rattle.ir_terminals.specs.Role.{terminal}

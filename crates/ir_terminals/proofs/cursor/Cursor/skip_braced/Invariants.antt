@@ -1,5 +1,5 @@
 use Rattle.std.proofs.Common.{◌≡◌, length, true, false}
-use Rattle.phrase_rows.specs.Row.{run_machine}
+use Rattle.ir_terminals.specs.PhraseRows.Row.{run_machine}
 use Rattle.ir_terminals.specs.Brackets.{brace_step}
 use Rattle.ir_terminals.specs.Position.{tokens_left}
 use Rattle.ir_terminals.specs.Role.{terminal}

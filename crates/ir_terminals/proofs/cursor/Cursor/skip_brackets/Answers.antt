@@ -1,5 +1,5 @@
 use Rattle.std.proofs.Common.{◌≡◌, [], ◌∷◌, true, sym, ◌∙◌}
-use Rattle.phrase_rows.specs.Row.{begins}
+use Rattle.ir_terminals.specs.PhraseRows.Row.{begins}
 use Rattle.ir_terminals.specs.Position.{tokens_left}
 use Rattle.ir_terminals.specs.Role.{class}
 use Rattle.ir_terminals.specs.Terminal.{code}

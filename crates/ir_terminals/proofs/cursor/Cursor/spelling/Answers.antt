@@ -1,4 +1,4 @@
-use Rattle.std.proofs.Common.{ap, ◌∙◌}
+use Rattle.std.proofs.Common.{◌∙◌}
 use Rattle.ir_terminals.proofs.Fronts.{bytes_are}
 use Rattle.ir_terminals.proofs.cursor.Cursor.spelling.Goals as goal
 

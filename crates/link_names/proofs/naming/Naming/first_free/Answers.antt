@@ -1,6 +1,6 @@
 use Rattle.std.proofs.Common.{◌≡◌, ◌+◌, ◌≤◌, true, length, length-append, sym, ap, ◌∙◌, bytes_eq, arith, rules}
 use Rattle.linkage_rules.specs.Lists.{has}
-use Rattle.module_linker.specs.Rename.{dotted}
+use Rattle.link_rules.specs.Rename.{dotted}
 use Rattle.link_names.specs.Naming.{TakenNames, taken}
 use Rattle.link_names.proofs.FirstFree.{taken_more, taken_fewer, last_free}
 use Rattle.link_names.proofs.naming.Naming.first_free.Goals as goal

@@ -1,6 +1,6 @@
 use Rattle.std.proofs.Common.{◌≡◌, suc, Some, length, refl, sym, ap, ◌∙◌, arith}
 use Rattle.std.proofs.lemmas.Bool.{eq-eqb, ne_eqb, or_parts, or_from}
-use Rattle.bit_walk.specs.declared.event.Event.TheVariants.{Begun, Ended, Defined, Held}
+use Rattle.bit_dump.specs.declared.walk.event.Event.TheVariants.{Begun, Ended, Defined, Held}
 use Rattle.record_read.specs.Reader.{Reader}
 use Rattle.record_read.proofs.Passing.{gave_event, gave_none, fewer}
 use Rattle.record_read.proofs.Advancing.{gives_block, gives_record, gives_end, gives_whole, past_definition, past_info}

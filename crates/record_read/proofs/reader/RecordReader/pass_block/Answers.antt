@@ -1,6 +1,6 @@
 use Rattle.std.proofs.Common.{◌≡◌, Some, refl, ap, ◌∙◌, arith}
 use Rattle.std.proofs.lemmas.Bool.{or_parts, or_from}
-use Rattle.bit_walk.specs.declared.event.Event.TheVariants.{Begun, Ended, Defined, Held}
+use Rattle.bit_dump.specs.declared.walk.event.Event.TheVariants.{Begun, Ended, Defined, Held}
 use Rattle.record_read.specs.Reader.{Reader}
 use Rattle.record_read.proofs.Closing.{inside_one}
 use Rattle.record_read.proofs.Passing.{passes_on, passes_none}

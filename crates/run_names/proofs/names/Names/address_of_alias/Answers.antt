@@ -1,8 +1,5 @@
-use Rattle.std.proofs.Common.{◌≡◌, ◌<◌, None, Some, get_or, length, refl, sym, ap, ◌∙◌, subst, arith}
+use Rattle.std.proofs.Common.{◌≡◌, Some, refl, sym, subst}
 use Rattle.std.specs.Prelude.{slice_get}
-use Rattle.std.proofs.lemmas.List.{length-map}
-use Rattle.std.proofs.lemmas.Option.{slice_get_read}
-use Rattle.module_arena.specs.declared.entry.Variable.{Variable}
 use Rattle.module_arena.specs.declared.entry.GlobalId.TheVariants as global
 use Rattle.module_arena.specs.Known.{IsGood, HasGlobal, counts}
 use Rattle.module_arena.specs.Lists.{Lists, name_at}

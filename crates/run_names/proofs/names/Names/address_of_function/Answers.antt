@@ -1,10 +1,7 @@
-use Rattle.std.proofs.Common.{◌≡◌, ◌<◌, None, Some, length, get_or, refl, sym, ap, ◌∙◌, subst, arith}
-use Rattle.std.specs.Prelude.{slice_get}
+use Rattle.std.proofs.Common.{◌≡◌, ◌<◌, None, length, get_or, refl, sym, ap, ◌∙◌, subst, arith}
 use Rattle.std.proofs.lemmas.List.{length-map}
 use Rattle.std.proofs.lemmas.Option.{slice_get_read}
-use Rattle.ir_eval.specs.Cast.{pointer_at}
-use Rattle.ir_eval.specs.declared.value.Scalar.{Scalar}
-use Rattle.ir_eval.specs.declared.value.Scalar.TheVariants.{Ptr, Poison}
+use Rattle.ir_eval.specs.declared.value.Scalar.TheVariants.{Ptr}
 use Rattle.linkage_rules.specs.Addresses.{function_address}
 use Rattle.module_arena.specs.declared.entry.GlobalId.TheVariants as global
 use Rattle.module_arena.specs.Lists.{Lists, name_at}

@@ -1,4 +1,4 @@
-use Rattle.std.proofs.Common.{◌≡◌, ◌<◌, ◌≤◌, Some, None, length, refl, sym, ap, ◌∙◌, subst, arith}
+use Rattle.std.proofs.Common.{◌≡◌, ◌<◌, ◌≤◌, Some, length, refl, sym, ap, ◌∙◌, subst, arith}
 use Rattle.std.specs.Prelude.{slice_get}
 use Rattle.std.specs.Option.{option_map_or}
 use Rattle.std.proofs.lemmas.List.{length-map}
@@ -7,11 +7,9 @@ use Rattle.module_arena.specs.View.{module_of}
 use Rattle.run_rules.specs.Calls as calls
 use Rattle.run_rules.specs.Look.{code_of, function_at, host_of, table}
 use Rattle.run_names.specs.declared.callee.CalleeRef.TheVariants as told
-use Rattle.run_names.specs.declared.standing.Standing.{Standing}
 use Rattle.run_names.specs.declared.standing.Standing.TheVariants as standing
 use Rattle.run_names.specs.Standings.{function_stands}
-use Rattle.run_names.specs.Told.{HasCode, alone, callee_seen}
-use Rattle.run_names.proofs.Arena.{callee_of}
+use Rattle.run_names.specs.Told.{HasCode, alone}
 use Rattle.run_names.proofs.Asked.{called_as, called_nothing, called_nowhere, code_counts, made_of}
 use Rattle.run_names.proofs.names.Names.callee.Goals as goal
 

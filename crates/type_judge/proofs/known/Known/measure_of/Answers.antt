@@ -1,5 +1,5 @@
 use Rattle.std.proofs.Common.{ap, ◌∙◌}
-use Rattle.ir_constants.specs.View.{type_view}
+use Rattle.ir_phrases.specs.Constants.View.{type_view}
 use Rattle.type_table.specs.Tree.{Structs}
 use Rattle.name_rules.specs.Measured.{tree_measured, look_in, struct_measures}
 use Rattle.name_rules.specs.Written.{type_in}

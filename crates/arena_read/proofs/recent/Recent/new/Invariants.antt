@@ -1,5 +1,0 @@
-use Rattle.std.proofs.Common.{◌≡◌, vec_len}
-use Rattle.arena_read.proofs.recent.Recent.new.Given as goal
-
-abbrev pub invariant-slots : goal.invariant-slots
-invariant-slots l = vec_len l.slots ≡ l._slot

@@ -1,5 +1,0 @@
-use Rattle.arena_table.proofs.Bodies.{small_known}
-use Rattle.arena_table.proofs.set.define_small.Goals as goal
-
-pub define-requires : goal.define-requires
-define-requires c = small_known _ _ c.in_ok-parts.parts c.in_ok-body.body c.in_ok-parts.ensures c.in_ok-body.ensures.0 c.in_ok-body.ensures.1

@@ -1,0 +1,14 @@
+pub mod Advancing
+pub mod Definitions
+pub mod Judging
+pub mod StaysInBits
+pub mod Literals
+pub mod Operands
+pub mod PassedOver
+pub mod PassingLoops
+pub mod PlainRecords
+pub mod Records
+pub mod Scopes
+pub mod Short
+pub mod Walked
+pub mod Ways

@@ -1,0 +1,11 @@
+use Rattle.std.proofs.Common.{rules, leb, leb-true, leb-false}
+use Rattle.std.proofs.lemmas.List.Sorted.{IsPartitionPoint-from_clause, IsPartitionedBy-leb}
+use Rattle.bit_tree.specs.declared.starts.row.GivenDefinition.{GivenDefinition}
+use Rattle.bit_tree.specs.Starts.Rows.{row_id}
+use Rattle.bit_tree.proofs.starts.search.count_through.Goals as goal
+
+pub returns-clause-point : goal.returns-clause-point
+returns-clause-point c =
+    let parted = IsPartitionedBy-leb row_id c.args.rows.now c.args.id c.requires in
+    let point = IsPartitionPoint-from_clause (λ (x : GivenDefinition). leb (row_id x) c.args.id) _ _ c.partition_point.ensures.partitioned parted (λ a r q k. search rules) in
+    (λ k d low high. leb-true _ _ (point.0 k d low high), λ k d low high. leb-false _ _ (point.1 k d low high))

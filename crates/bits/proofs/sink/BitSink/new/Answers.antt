@@ -1,7 +1,0 @@
-use Rattle.std.proofs.Common.{refl}
-use Rattle.bits.specs.Bits.{stream_bits, bits_of}
-use Rattle.bits.proofs.sink.BitSink.new.Goals as goal
-
-pub returns : goal.returns
-unfolding stream_bits bits_of
-returns c = rw c.in_ok-with_capacity.ensures.items refl

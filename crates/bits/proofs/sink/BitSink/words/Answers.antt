@@ -1,9 +1,0 @@
-use Rattle.std.proofs.Common.{arith, length-append}
-use Rattle.bits.specs.Bits.{stream_bits, bits_of}
-use Rattle.bits.proofs.BitsLaws.{length-stream_bits, length-bits_of}
-use Rattle.bits.proofs.sink.BitSink.words.Goals as goal
-
-pub returns : goal.returns
-returns c =
-    let s = c.self.inside in
-    rw (← c.self.view_is) (omega (arith, length-append (stream_bits s.out.items) (bits_of s.count s.pending), length-stream_bits s.out.items, length-bits_of s.count s.pending))

@@ -1,5 +1,0 @@
-use Rattle.body_names.proofs.Tame.{inline_called}
-use Rattle.body_names.proofs.label.read_called.Goals as goal
-
-pub returns-in-Inline : goal.returns-in-Inline
-returns-in-Inline c = inline_called c.read_label.result c.args.texts.now c.args.own _ _ c.in-Inline.is c.read_label.ensures

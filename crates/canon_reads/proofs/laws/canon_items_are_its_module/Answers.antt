@@ -1,5 +1,0 @@
-use Rattle.canon_reads.proofs.Writes.{canon_is_of_its_items}
-use Rattle.canon_reads.proofs.laws.canon_items_are_its_module.Goals as goal
-
-pub returns : goal.returns
-returns c = canon_is_of_its_items

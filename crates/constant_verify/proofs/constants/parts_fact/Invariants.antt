@@ -1,7 +1,0 @@
-use Rattle.std.proofs.Common.{◌≡◌, map, take}
-use Rattle.std.specs.List.{fold}
-use Rattle.constant_verify.specs.ConstantParts.{all_pass, both_constant_facts, part_fact_at}
-use Rattle.constant_verify.proofs.constants.parts_fact.Given as goal
-
-abbrev pub invariant-loop-part : goal.invariant-loop-part
-invariant-loop-part l = l.all ≡ fold both_constant_facts all_pass (map (part_fact_at l.arena) (take l.part-index l.parts))

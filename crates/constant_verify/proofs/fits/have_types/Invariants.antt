@@ -1,9 +1,0 @@
-use Rattle.std.proofs.Common.{◌≡◌, map, drop}
-use Rattle.type_table.specs.Types.{tree, trees, trees_at}
-use Rattle.constant_verify.specs.ConstantParts.{are_types}
-use Rattle.constant_verify.proofs.fits.have_types.Given as goal
-
-abbrev pub invariant-loop-index : goal.invariant-loop-index
-invariant-loop-index l =
-    are_types (trees_at (trees l.types) (drop l.index l.wanted)) (map (λ x. tree l.types x.ty) (drop l.index l.parts))
-    ≡ are_types (trees_at (trees l.types) l.wanted) (map (λ x. tree l.types x.ty) l.parts)

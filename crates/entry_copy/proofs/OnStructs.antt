@@ -1,0 +1,2 @@
+pub mod StructsNamed
+pub mod StructsDefined

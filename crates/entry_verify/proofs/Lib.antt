@@ -1,0 +1,3 @@
+pub mod OnTypes
+pub mod OnConstants
+pub mod OnEntries

@@ -1,0 +1,8 @@
+use Rattle.std.proofs.Common.{◌≡◌, true, take}
+use Rattle.std.specs.List.{list_all}
+use Rattle.type_table.specs.Types.{tree, structs}
+use Rattle.module_arena.specs.TypeTests.{is_passable}
+use Rattle.entry_verify.proofs.constants.constants.are_passable.Given as goal
+
+abbrev pub invariant-loop-part : goal.invariant-loop-part
+invariant-loop-part l = list_all (λ x. is_passable (structs l.types) (tree l.types x.ty)) (take l.part-index l.parts) ≡ true

@@ -1,6 +1,0 @@
-use Rattle.std.proofs.Common.{flat_map, take}
-use Rattle.extract_core.specs.Calls.{Adds, called_in_block}
-use Rattle.extract_core.proofs.chosen.add_called_in_blocks.Given as goal
-
-abbrev pub invariant-loop-block : goal.invariant-loop-block
-invariant-loop-block l = Adds l.initial.names.keys (flat_map (called_in_block l.arena) (take l.block-index l.blocks)) l.names.keys

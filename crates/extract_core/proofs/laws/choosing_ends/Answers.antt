@@ -1,5 +1,0 @@
-use Rattle.extract_core.proofs.Closure.{times_are_enough}
-use Rattle.extract_core.proofs.laws.choosing_ends.Goals as goal
-
-pub returns : goal.returns
-returns c = times_are_enough

@@ -1,0 +1,11 @@
+pub mod Among
+pub mod Closure
+pub mod Entries
+pub mod Adding
+pub mod Reaching
+pub mod Called
+pub mod Keeping
+pub mod Rows
+pub mod AliasRows
+pub mod OnKeptNames
+pub mod OnValid

@@ -1,0 +1,8 @@
+use Rattle.module_arena.specs.Module.{Constant}
+use Rattle.std.proofs.Common.{List}
+use Rattle.extract_rules.specs.KeptNames.Marks.{in_value}
+use Rattle.extract_rules.proofs.OnKeptNames.Marking.{both_marked}
+use Rattle.extract_rules.proofs.kept_names.marks.mark_two.Goals as goal
+
+pub returns : goal.returns
+returns c = both_marked c.args.marks.now c.mark_value.new.marks c.mark_value-2.new.marks (λ (cs : List Constant). in_value cs c.args.first) (λ (cs : List Constant). in_value cs c.args.second) c.mark_value.ensures c.mark_value-2.ensures

@@ -1,0 +1,22 @@
+use Rattle.std.proofs.Common.{◌≡◌, length, Some, slice_get, subst, arith}
+use Rattle.type_table.specs.Types.{trees}
+use Rattle.module_arena.specs.Module.{Variable}
+use Rattle.module_arena.specs.View.{module_of, constants_of, variable_view}
+use Rattle.extract_rules.specs.Selected.{is_among}
+use Rattle.extract_rules.proofs.Keeping.{flags_more, flags_whole, variable_at, variables_length}
+use Rattle.extract_rules.proofs.kept_names.named.named_variables.Goals as goal
+
+pub loop-number-preserved : goal.loop-number-preserved
+loop-number-preserved c =
+    let a = c.args.arena.now in
+    let x = c.variable.result.now in
+    let at : slice_get a.variables c.loop-number.number ≡ Some x = subst (λ n. slice_get a.variables n ≡ Some x) c.new.ensures c.variable.ensures in
+    flags_more (λ (y : Variable). is_among c.args.names.now.keys y.name) (module_of a).variables c.loop-number.number (variable_view (trees a.table) (constants_of a) x) c.loop-number.flags c.push.new.self c.contains-is_named.result
+    (variable_at a c.loop-number.number x at) c.loop-number.invariant c.in_ok-push.ensures.ok c.contains-is_named.ensures
+
+pub returns : goal.returns
+returns c =
+    let a = c.args.arena.now in
+    let long = variables_length a in
+    let end : c.loop-number.number ≡ length (module_of a).variables = omega (arith, c.loop-number-test.false, c.loop-number.auto.number-end, c.variable_count-number-end.ensures.count, long) in
+    flags_whole (λ (y : Variable). is_among c.args.names.now.keys y.name) (module_of a).variables c.loop-number.number c.loop-number.flags end c.loop-number.invariant

@@ -1,0 +1,9 @@
+pub mod Selected
+pub mod Extracted
+pub mod Entries
+pub mod Calls
+pub mod Closure
+pub mod Flags
+pub mod Faults
+pub mod KeptNames
+pub mod Valid

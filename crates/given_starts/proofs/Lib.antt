@@ -1,5 +1,0 @@
-mod Joining
-mod Rising
-mod StartLists
-mod Tables
-mod Views

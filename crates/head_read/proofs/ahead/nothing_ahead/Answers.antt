@@ -1,5 +1,0 @@
-use Rattle.std.proofs.Common.{refl, arith}
-use Rattle.head_read.proofs.ahead.nothing_ahead.Goals as goal
-
-pub returns : goal.returns
-returns c = record { variables = refl; functions = refl; aliases = refl; structs = record { count = refl; few = omega arith; first_bad = refl; named = λ none. c.new-named.ensures } }

@@ -1,6 +1,0 @@
-use Rattle.std.specs.Vec.Iter.{into_iter_items}
-use Rattle.holding_set.proofs.Filling.{IsFilling}
-use Rattle.holding_set.proofs.bodies.set_bodies.Given as goal
-
-abbrev pub invariant-functions : goal.invariant-functions
-invariant-functions l = IsFilling l.initial.arena l.defined l.fn.bodies.items l.number l.arena (into_iter_items l.rest)

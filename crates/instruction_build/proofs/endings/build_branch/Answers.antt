@@ -1,8 +1,0 @@
-use Rattle.instruction_build.specs.Parts.{value_names, block_names}
-use Rattle.instruction_build.proofs.Ended.{ends_branch}
-use Rattle.instruction_build.proofs.endings.build_branch.Goals as goal
-
-pub returns-clause-is : goal.returns-clause-is
-returns-clause-is c =
-    ends_branch (value_names c.args.locals.now) (block_names c.args.locals.now) c.build_operand.new.builder.arena c.in_ok-condition.condition _ c.find_block-then_to.result _ c.find_block-else_to.result _
-    c.in_ok-condition.ensures.is c.find_block-then_to.ensures c.find_block-else_to.ensures

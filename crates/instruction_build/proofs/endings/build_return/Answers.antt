@@ -1,6 +1,0 @@
-use Rattle.instruction_build.specs.Parts.{value_names, block_names}
-use Rattle.instruction_build.proofs.Ended.{ends_return}
-use Rattle.instruction_build.proofs.endings.build_return.Goals as goal
-
-pub returns-clause-is : goal.returns-clause-is
-returns-clause-is c = ends_return (value_names c.args.locals.now) (block_names c.args.locals.now) c.build_operand.new.builder.arena c.in_ok-operand.operand _ c.in_ok-operand.ensures.is

@@ -1,6 +1,0 @@
-use Rattle.std.proofs.Common.{◌≡◌, map, take}
-use Rattle.name_rules.specs.Written.{natural}
-use Rattle.instruction_build.proofs.numbers.indices_of.Given as goal
-
-abbrev pub invariant-loop-integer : goal.invariant-loop-integer
-invariant-loop-integer l = l.indices.items ≡ map natural (take l.integer-index l.written)

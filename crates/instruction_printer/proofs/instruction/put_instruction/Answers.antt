@@ -1,7 +1,0 @@
-use Rattle.phrase_printer.specs.Printing.{separator_of}
-use Rattle.instruction_printer.proofs.Results.{instruction_put}
-use Rattle.instruction_printer.proofs.instruction.put_instruction.Goals as goal
-
-pub returns : goal.returns
-returns g c =
-    instruction_put c.args.arena.now c.args.function.now (separator_of c.args.behind) c.args.inst.now c.result.result c.result.ensures (c.put_result.ensures c.args.arena.now) c.put_operation.ensures

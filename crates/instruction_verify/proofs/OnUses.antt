@@ -1,0 +1,13 @@
+pub mod Held
+pub mod Named
+pub mod Told
+pub mod Entered
+pub mod GivenHeld
+pub mod Mapped
+pub mod Counted
+pub mod Edged
+pub mod Agreed
+pub mod Scratched
+pub mod PhisTold
+pub mod ClassesTold
+pub mod KeysTold

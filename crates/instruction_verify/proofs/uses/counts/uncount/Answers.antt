@@ -1,0 +1,26 @@
+use Rattle.std.proofs.Common.{◌<◌, ◌+◌, ◌-◌, ◌≡◌, length, get_or, arith}
+use Rattle.std.proofs.lemmas.List.{length-set}
+use Rattle.instruction_verify.proofs.OnUses.Counted.{at_least, uncounted_next}
+use Rattle.instruction_verify.proofs.uses.counts.uncount.Goals as goal
+
+pub numbers-preserved : goal.numbers-preserved
+numbers-preserved c =
+    let xs = c.args.numbers.now in
+    let i = c.numbers.number-index in
+    let counts = c.numbers.counts in
+    let x = get_or xs i 0 in
+    let lt : i < length xs = omega arith in
+    let long = length-set counts x (get_or counts x 0 - 1) in
+    let within = c.requires.known i 0 lt in
+    let known : x < length counts = omega (arith, c.numbers.invariant.0, within) in
+    let least = at_least xs i lt in
+    let back : get_or counts x 0 - 1 + 1 ≡ get_or counts x 0 = omega (arith, least, c.numbers.invariant.1 x) in
+    (omega (arith, long, c.numbers.invariant.0), uncounted_next xs i lt counts known (get_or counts x 0 - 1) back c.numbers.invariant.1)
+
+pub overflow_sub-counts : goal.overflow_sub-counts
+overflow_sub-counts c =
+    let xs = c.args.numbers.now in
+    let i = c.numbers.number-index in
+    let lt : i < length xs = omega arith in
+    let least = at_least xs i lt in
+    omega (arith, least, c.numbers.invariant.1 (get_or xs i 0))

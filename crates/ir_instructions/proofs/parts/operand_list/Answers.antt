@@ -1,5 +1,0 @@
-use Rattle.ir_constants.proofs.Grammar.{reads_typed_value}
-use Rattle.ir_instructions.proofs.parts.operand_list.Goals as goal
-
-pub more_parts-requires-clause-reads : goal.more_parts-requires-clause-reads
-more_parts-requires-clause-reads c = reads_typed_value

@@ -1,0 +1,10 @@
+use Rattle.std.proofs.Common.{◌∙◌}
+use Rattle.ir_memory.specs.Masked.Masked.{is_marked}
+use Rattle.ir_memory.proofs.OnMasked.Steps.{step_up}
+use Rattle.ir_memory.proofs.masked.mask.copy_marks.Goals as goal
+
+pub loop-k-preserved : goal.loop-k-preserved
+loop-k-preserved c = record {
+  len = c.set.ensures.len ∙ c.loop-k.invariant.len;
+  marks = λ q. step_up (λ k. is_marked c.args.others.now k) (λ k. is_marked c.args.words.now k) (is_marked c.loop-k.words q) _ c.has-to.result c.args.at c.args.from c.loop-k.k q c.has-to.ensures (c.loop-k.invariant.marks q) (c.set.ensures.marks q);
+}

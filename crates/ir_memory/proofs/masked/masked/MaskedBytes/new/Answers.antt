@@ -1,0 +1,9 @@
+use Rattle.std.proofs.Common.{ap, ◌∙◌, rules}
+use Rattle.ir_memory.specs.Masked.Masked.{masked}
+use Rattle.ir_memory.proofs.OnMasked.Puts.{zeros}
+use Rattle.ir_memory.proofs.masked.masked.MaskedBytes.new.Goals as goal
+
+pub returns : goal.returns
+returns c =
+    ap (λ bs. masked c.in_ok-no_marks.field-0 bs) (c.in_ok-vec.ensures.items_if_clones_equal (λ y e. search rules))
+    ∙ zeros _ c.args.count c.in_ok-no_marks.ensures.none

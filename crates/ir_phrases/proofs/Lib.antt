@@ -1,0 +1,2 @@
+pub mod OnConstants
+pub mod OnInstructions

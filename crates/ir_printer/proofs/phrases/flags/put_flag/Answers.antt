@@ -1,0 +1,11 @@
+use Rattle.std.proofs.Common.{ℕ, List, sym, ap, ◌∙◌}
+use Rattle.ir_lexer.specs.Pieces.{Space}
+use Rattle.ir_lexer.specs.declared.token.TokenKind.TheVariants as kind
+use Rattle.canonical.specs.Phrase.{token}
+use Rattle.ir_printer.proofs.OnPhrases.Printing.{prints_same}
+use Rattle.ir_printer.proofs.phrases.flags.put_flag.Goals as goal
+
+pub returns-then-has : goal.returns-then-has
+returns-then-has g c =
+    rw (sym c.has.ensures ∙ c.if-has.true)
+    (prints_same (ap (λ (s : List ℕ). token kind.Word s Space) (c.as_bytes.ensures.value ∙ c.word.ensures)) (c.put_token.ensures kind.Word))

@@ -1,0 +1,9 @@
+pub mod Given
+pub mod Types
+pub mod Constants
+pub mod Operations
+pub mod Blocks
+pub mod Locals
+pub mod Items
+pub mod Buildable
+pub mod Few

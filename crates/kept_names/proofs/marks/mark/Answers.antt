@@ -1,8 +1,0 @@
-use Rattle.std.proofs.Common.{subst}
-use Rattle.std.specs.Prelude.{slice_set, true}
-use Rattle.kept_names.specs.Marks.{MarksAll, in_const}
-use Rattle.kept_names.proofs.Marking.{one_marked}
-use Rattle.kept_names.proofs.marks.mark.Goals as goal
-
-pub returns-then-place-marks : goal.returns-then-place-marks
-returns-then-place-marks c = subst (λ k. MarksAll c.args.marks.now (λ cs. in_const cs k) (slice_set c.args.marks.now c.number-place.result true)) c.number-place.ensures (one_marked c.args.marks.now c.number-place.result)

@@ -1,6 +1,0 @@
-use Rattle.std.proofs.Common.{flat_map, take}
-use Rattle.kept_names.specs.Marks.{MarksAll, in_inst}
-use Rattle.kept_names.proofs.marks.mark_instructions.Given as goal
-
-abbrev pub invariant-loop-instruction : goal.invariant-loop-instruction
-invariant-loop-instruction l = MarksAll l.initial.marks (λ cs. flat_map (in_inst cs) (take l.instruction-index l.instructions)) l.marks

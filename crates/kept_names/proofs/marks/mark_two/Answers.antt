@@ -1,8 +1,0 @@
-use Rattle.module_arena.specs.Module.{Constant}
-use Rattle.std.proofs.Common.{List}
-use Rattle.kept_names.specs.Marks.{in_value}
-use Rattle.kept_names.proofs.Marking.{both_marked}
-use Rattle.kept_names.proofs.marks.mark_two.Goals as goal
-
-pub returns : goal.returns
-returns c = both_marked c.args.marks.now c.mark_value.new.marks c.mark_value-2.new.marks (λ (cs : List Constant). in_value cs c.args.first) (λ (cs : List Constant). in_value cs c.args.second) c.mark_value.ensures c.mark_value-2.ensures

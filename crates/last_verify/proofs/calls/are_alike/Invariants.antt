@@ -1,7 +1,0 @@
-use Rattle.std.proofs.Common.{◌≡◌, drop}
-use Rattle.last_verify.specs.CallsById.{are_alike}
-use Rattle.last_verify.proofs.calls.are_alike.Given as goal
-
--- what is left is alike where all are
-abbrev pub invariant-loop-index : goal.invariant-loop-index
-invariant-loop-index l = are_alike l.types (drop l.index l.parameters) (drop l.index l.arguments) ≡ are_alike l.types l.parameters l.arguments

@@ -1,6 +1,0 @@
-use Rattle.std.proofs.Common.{◌∙◌}
-use Rattle.last_verify.proofs.OperandsTold.{fits_told}
-use Rattle.last_verify.proofs.values.operands_fit.Goals as goal
-
-pub returns : goal.returns
-returns c vs bs = c.all_fit.ensures ∙ fits_told c.args.judge.now vs bs c.args.operands.now

@@ -1,6 +1,0 @@
-use Rattle.operand_write.proofs.Chain.{last2}
-use Rattle.line_write.specs.Parts.{type_operands, address_operands}
-use Rattle.line_write.proofs.instruction.put_load.Goals as goal
-
-pub returns : goal.returns
-returns c = λ f body has align. last2 _ _ (type_operands c.args.numbering.now f c.args.ty) (address_operands c.args.numbering.now f c.args.address c.args.align) _ _ c.in_ok-put_type.ensures (c.put_address.ensures f body has align)

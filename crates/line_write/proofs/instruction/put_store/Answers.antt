@@ -1,6 +1,0 @@
-use Rattle.operand_write.proofs.Chain.{last2}
-use Rattle.line_write.specs.Parts.{operand_operands, address_operands}
-use Rattle.line_write.proofs.instruction.put_store.Goals as goal
-
-pub returns : goal.returns
-returns c = λ f body stored has align. last2 _ _ (operand_operands c.args.numbering.now f c.args.stored) (address_operands c.args.numbering.now f c.args.address c.args.align) _ _ (c.in_ok-put_operand.ensures f body stored) (c.put_address.ensures f body has align)

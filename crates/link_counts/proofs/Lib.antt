@@ -1,5 +1,0 @@
-mod Clamped
-mod Counted
-mod Elements
-mod FirstPast
-mod Sizes

@@ -1,6 +1,0 @@
-use Rattle.std.proofs.Common.{◌≡◌, ◌++◌, map, take}
-use Rattle.entry_copy.specs.Moved.{moved_typed}
-use Rattle.link_filling.proofs.appended.push_moved.Given as goal
-
-abbrev pub invariant-elements : goal.invariant-elements
-invariant-elements l = l.into.items ≡ l.fn.into.items ++ map (moved_typed l.copier) (take l.element-index l.elements)

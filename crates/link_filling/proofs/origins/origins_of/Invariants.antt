@@ -1,6 +1,0 @@
-use Rattle.std.proofs.Common.{◌≡◌, map, take}
-use Rattle.link_filling.specs.Origins.{origin_in}
-use Rattle.link_filling.proofs.origins.origins_of.Given as goal
-
-abbrev pub invariant-loop-symbol : goal.invariant-loop-symbol
-invariant-loop-symbol l = l.origins.items ≡ map (origin_in l.fn.bindings) (take l.symbol-index l.symbol-items)

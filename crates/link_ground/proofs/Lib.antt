@@ -1,5 +1,0 @@
-mod Whole
-mod PartTypes
-mod Beginning
-mod Adding
-mod Ending

@@ -1,2 +1,0 @@
-mod TextsOf
-mod NamesApart

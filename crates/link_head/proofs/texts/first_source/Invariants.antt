@@ -1,8 +1,0 @@
-use Rattle.std.proofs.Common.{◌≡◌, drop}
-use Rattle.linkage_rules.specs.Ids.{modules}
-use Rattle.module_arena.specs.Module.{Module}
-use Rattle.module_linker.specs.Linked.{first_of}
-use Rattle.link_head.proofs.texts.first_source.Given as goal
-
-abbrev pub invariant-parts : goal.invariant-parts
-invariant-parts l = first_of (λ (m : Module). m.source) (modules l.parts) ≡ first_of (λ (m : Module). m.source) (modules (drop l.part-index l.parts))

@@ -1,0 +1,5 @@
+pub mod Clamped
+pub mod Counted
+pub mod Elements
+pub mod FirstPast
+pub mod Sizes

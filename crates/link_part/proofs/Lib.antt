@@ -1,5 +1,0 @@
-pub mod PartStructs
-mod Bodies
-mod Given
-mod Grown
-mod StructBodies

@@ -1,0 +1,11 @@
+pub mod Rename
+pub mod Structs
+pub mod Linked
+pub mod Counts
+pub mod Carried
+pub mod Known
+pub mod Merges
+pub mod Alone
+pub mod Laws
+pub mod Bodies
+pub mod Valid

@@ -1,0 +1,8 @@
+use Rattle.std.proofs.Common.{◌≡◌, map, filter, take}
+use Rattle.linkage_rules.specs.Ids.{modules, seen}
+use Rattle.linkage_rules.specs.Addresses.{greatest_common}
+use Rattle.linkage_rules.specs.Winner.{is_definition}
+use Rattle.linkage_rules.proofs.resolving.room.greatest_common.Given as goal
+
+abbrev pub invariant-loop-id : goal.invariant-loop-id
+invariant-loop-id l = l.greatest ≡ greatest_common (modules l.parts) (filter is_definition (map (seen (modules l.parts)) (take l.id-index l.ids)))

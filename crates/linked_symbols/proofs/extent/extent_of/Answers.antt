@@ -1,5 +1,0 @@
-use Rattle.linked_symbols.proofs.VariableExtents.{plain_extent}
-use Rattle.linked_symbols.proofs.extent.extent_of.Goals as goal
-
-pub returns-in-Function : goal.returns-in-Function
-returns-in-Function c = plain_extent c.args.parts.now c.args.id c.requires.entry c.in-Function.is

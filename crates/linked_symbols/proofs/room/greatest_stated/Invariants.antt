@@ -1,8 +1,0 @@
-use Rattle.std.proofs.Common.{◌≡◌, map, filter, take}
-use Rattle.linkage_rules.specs.Ids.{modules, seen}
-use Rattle.linkage_rules.specs.Addresses.{greatest_stated}
-use Rattle.linkage_rules.specs.Winner.{is_definition}
-use Rattle.linked_symbols.proofs.room.greatest_stated.Given as goal
-
-abbrev pub invariant-loop-id : goal.invariant-loop-id
-invariant-loop-id l = l.greatest ≡ greatest_stated (filter is_definition (map (seen (modules l.parts)) (take l.id-index l.ids)))

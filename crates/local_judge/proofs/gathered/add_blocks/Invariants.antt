@@ -1,9 +1,0 @@
-use Rattle.std.proofs.Common.{take, map}
-use Rattle.std.specs.Prelude.{flat_map}
-use Rattle.ir_instructions.specs.View.{block_view}
-use Rattle.name_rules.specs.Locals.{announced_block}
-use Rattle.local_judge.specs.Names.{Announces}
-use Rattle.local_judge.proofs.gathered.add_blocks.Given as goal
-
-abbrev pub invariant-all_blocks : goal.invariant-all_blocks
-invariant-all_blocks l = Announces l.initial.names l.names (flat_map announced_block (map block_view (take l.block-index l.blocks)))

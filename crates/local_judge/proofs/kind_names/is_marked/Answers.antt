@@ -1,6 +1,0 @@
-use Rattle.std.proofs.Common.{ap, Bool, ◌∙◌}
-use Rattle.name_rules.specs.Locals.{is_alike}
-use Rattle.local_judge.proofs.kind_names.is_marked.Goals as goal
-
-pub returns : goal.returns
-returns c = c.is_alike.ensures ∙ ap (λ (mark : Bool). is_alike mark c.args.block) c.mark_at.ensures

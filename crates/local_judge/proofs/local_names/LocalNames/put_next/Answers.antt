@@ -1,8 +1,0 @@
-use Rattle.std.proofs.Common.{arith, refl, sym}
-use Rattle.local_judge.proofs.Named.{mark_brings}
-use Rattle.local_judge.proofs.local_names.LocalNames.put_next.Goals as goal
-
-pub returns-clause-names : goal.returns-clause-names
-returns-clause-names c =
-    let old = c.args.self.now in
-    mark_brings _ _ c.args.block (sym old.marks.ok.0) (omega arith) c.in_ok-push.ensures.items refl refl

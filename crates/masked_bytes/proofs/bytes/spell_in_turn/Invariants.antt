@@ -1,6 +1,0 @@
-use Rattle.std.proofs.Common.{◌≡◌, ℕ, ◌<◌, get_or}
-use Rattle.masked_bytes.specs.Masked.{digit}
-use Rattle.masked_bytes.proofs.bytes.spell_in_turn.Given as goal
-
-abbrev pub invariant-loop-place : goal.invariant-loop-place
-invariant-loop-place l = (k : ℕ) → k < l.place → get_or l.bytes k 0 ≡ digit l.number k

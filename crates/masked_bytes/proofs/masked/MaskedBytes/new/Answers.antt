@@ -1,9 +1,0 @@
-use Rattle.std.proofs.Common.{ap, ◌∙◌, rules}
-use Rattle.masked_bytes.specs.Masked.{masked}
-use Rattle.masked_bytes.proofs.Puts.{zeros}
-use Rattle.masked_bytes.proofs.masked.MaskedBytes.new.Goals as goal
-
-pub returns : goal.returns
-returns c =
-    ap (λ bs. masked c.in_ok-no_marks.field-0 bs) (c.in_ok-vec.ensures.items_if_clones_equal (λ y e. search rules))
-    ∙ zeros _ c.args.count c.in_ok-no_marks.ensures.none

@@ -1,7 +1,0 @@
-use Rattle.std.proofs.Common.{◌∙◌, sym, ap, map, Some}
-use Rattle.masked_bytes.proofs.Puts.{unmarked}
-use Rattle.masked_bytes.proofs.masked.MaskedBytes.plain.Goals as goal
-
-pub returns : goal.returns
-returns c =
-    rw (← c.self.view_is) (unmarked _ c.self.inside.bytes.items (c.self.invariant.1 c.if-not-self.false) ∙ ap (map (λ b. Some b)) (sym c.as_slice.ensures.value))

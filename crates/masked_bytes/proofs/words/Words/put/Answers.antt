@@ -1,9 +1,0 @@
-use Rattle.std.proofs.Common.{sym, arith}
-use Rattle.masked_bytes.proofs.WordLists.{set_first, set_other}
-use Rattle.masked_bytes.proofs.words.Words.put.Goals as goal
-
-pub returns-then-place-eq0 : goal.returns-then-place-eq0
-returns-then-place-eq0 c = rw (← c.self.view_is) (sym (set_first c.self.inside.first c.args.word c.self.inside.others.items c.args.place (omega arith)))
-
-pub returns : goal.returns
-returns c = rw (← c.self.view_is) (sym (set_other c.self.inside.first c.args.word c.self.inside.others.items c.args.place (omega arith)))

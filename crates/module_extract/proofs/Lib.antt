@@ -1,4 +1,0 @@
-pub mod KeptNames
-pub mod NewIds
-pub mod Targets
-pub mod Parts

@@ -1,2 +1,0 @@
-pub mod Linkable
-pub mod Told

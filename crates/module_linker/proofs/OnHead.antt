@@ -1,0 +1,2 @@
+pub mod TextsOf
+pub mod NamesApart

@@ -1,0 +1,5 @@
+pub mod PartStructs
+pub mod Bodies
+pub mod Given
+pub mod Grown
+pub mod StructBodies

@@ -1,0 +1,13 @@
+pub mod Orders
+pub mod Draws
+pub mod Lists
+pub mod Tokens
+pub mod Types
+pub mod Constants
+pub mod Calls
+pub mod Operations
+pub mod Blocks
+pub mod Parameters
+pub mod Items
+pub mod Ascending
+pub mod Least

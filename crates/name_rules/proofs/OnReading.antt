@@ -1,0 +1,15 @@
+pub mod Given
+pub mod Spellings
+pub mod Types
+pub mod Constants
+pub mod Instructions
+pub mod Items
+pub mod Tests
+pub mod GoodTypes
+pub mod GoodConstants
+pub mod GoodOperations
+pub mod GoodBlocks
+pub mod Called
+pub mod GoodFunctions
+pub mod Entries
+pub mod WellFormed

@@ -1,2 +1,0 @@
-pub mod NewIds
-pub mod Stages

@@ -1,5 +1,0 @@
-use Rattle.ir_lexer.specs.declared.token.TokenKind.TheVariants as kind
-use Rattle.phrase_printer.proofs.brackets.put_bracket.Goals as goal
-
-pub returns-in-Square : goal.returns-in-Square
-returns-in-Square g c = rw c.in-Square.is (c.put_token.ensures kind.Punctuation)

@@ -1,7 +1,0 @@
-use Rattle.std.proofs.Common.{◌∙◌, arith}
-use Rattle.phrase_printer.proofs.Numerals.{standard_digits}
-use Rattle.phrase_printer.proofs.Printing.{tells_same}
-use Rattle.phrase_printer.proofs.numbers.put_digits.Goals as goal
-
-pub returns : goal.returns
-returns g c = tells_same (c.as_bytes.ensures.value ∙ c.format.ensures.text ∙ standard_digits c.args.value (omega (arith, c.ranges.value.fits))) c.put.ensures

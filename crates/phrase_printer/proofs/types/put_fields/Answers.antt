@@ -1,6 +1,0 @@
-use Rattle.phrase_printer.specs.Printing.{separator_of}
-use Rattle.phrase_printer.proofs.TypeParts.{fields_put}
-use Rattle.phrase_printer.proofs.types.put_fields.Goals as goal
-
-pub returns : goal.returns
-returns g c = fields_put c.args.types.now c.args.packed c.args.parts.now (separator_of c.args.behind) c.put_opening.ensures c.put_types.ensures c.put_closing.ensures

@@ -1,8 +1,0 @@
-use Rattle.std.proofs.Common.{◌≡◌, ℕ, None}
-use Rattle.std.specs.Ordering.{nat_cmp}
-use Rattle.std.specs.BTreeMap as tree
-use Rattle.pointer_pieces.specs.Pieces.{with_pointer}
-use Rattle.pointer_pieces.proofs.pieces.pieces_of.Given as goal
-
-abbrev pub invariant-loop-k : goal.invariant-loop-k
-invariant-loop-k l = (q : ℕ) → tree.get nat_cmp l.found q ≡ with_pointer l.at l.k l.pointer (λ q. None) q

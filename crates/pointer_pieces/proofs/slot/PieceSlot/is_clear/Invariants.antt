@@ -1,5 +1,0 @@
-use Rattle.std.proofs.Common.{◌≡◌, ℕ, ◌<◌, get_or, None}
-use Rattle.pointer_pieces.proofs.slot.PieceSlot.is_clear.Given as goal
-
-abbrev pub invariant-places : goal.invariant-places
-invariant-places l = (j : ℕ) → j < l.k → get_or l.self.pieces j None ≡ None

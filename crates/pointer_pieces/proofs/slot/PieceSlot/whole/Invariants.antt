@@ -1,8 +1,0 @@
-use Rattle.std.proofs.Common.{◌≡◌, ℕ, ◌<◌, length, get_or, Some, None}
-use Rattle.pointer_pieces.proofs.slot.PieceSlot.whole.Given as goal
-
-abbrev pub invariant-places : goal.invariant-places
-invariant-places l = record {
-  long : length l.pieces ≡ 8;
-  done : (j : ℕ) → j < l.k → get_or l.pieces j None ≡ Some (record { pointer = l.pointer; place = j });
-}

@@ -1,5 +1,0 @@
-use Rattle.std.proofs.Common.{◌∙◌}
-use Rattle.pointer_pieces.proofs.slots.make_room.Goals as goal
-
-pub returns-in-Err-clause-same : goal.returns-in-Err-clause-same
-returns-in-Err-clause-same c = λ q. c.sweep.ensures q ∙ c.add_slots.ensures.same q

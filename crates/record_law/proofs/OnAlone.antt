@@ -1,0 +1,10 @@
+pub mod Numbers
+pub mod ConstantsLow
+pub mod LinesLow
+pub mod BodiesLow
+pub mod EntriesLow
+pub mod TypesLow
+pub mod Counted
+pub mod WholeModule
+pub mod Bytes
+pub mod Alone

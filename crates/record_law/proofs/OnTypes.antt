@@ -1,0 +1,15 @@
+pub mod Tests
+pub mod TextsHeld
+pub mod Places
+pub mod LessDefined
+pub mod TypesInOrder
+pub mod TypesById
+pub mod TypesFront
+pub mod TypesPut
+pub mod StructsPut
+pub mod StructsListed
+pub mod Judged
+pub mod TypesRead
+pub mod GoodWritten
+pub mod GoodMentioned
+pub mod TypesFit

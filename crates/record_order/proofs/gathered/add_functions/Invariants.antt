@@ -1,6 +1,0 @@
-use Rattle.std.proofs.Common.{map, take}
-use Rattle.record_order.specs.Table.{Gains}
-use Rattle.record_order.proofs.gathered.add_functions.Given as goal
-
-abbrev pub invariant-loop-number : goal.invariant-loop-number
-invariant-loop-number l = Gains l.fn.table l.table (map (λ f. f.name) (take l.number l.arena.functions))

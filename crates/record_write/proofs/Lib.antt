@@ -1,0 +1,2 @@
+pub mod OnOrder
+pub mod OnOperands

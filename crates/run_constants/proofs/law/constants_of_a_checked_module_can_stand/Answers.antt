@@ -1,5 +1,0 @@
-use Rattle.run_constants.proofs.Standing.{constants_can_stand}
-use Rattle.run_constants.proofs.law.constants_of_a_checked_module_can_stand.Goals as goal
-
-pub returns : goal.returns
-returns c = constants_can_stand

@@ -1,4 +1,0 @@
-pub mod Filled
-pub mod Laws
-pub mod Places
-pub mod Sound

@@ -1,0 +1,9 @@
+pub mod Added
+pub mod Answered
+pub mod Bounded
+pub mod Gained
+pub mod Located
+pub mod Parted
+pub mod Shaped
+pub mod Viewed
+pub mod Wayed

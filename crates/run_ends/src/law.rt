@@ -1,7 +1,0 @@
-//! How runs end.
-ghost use Rattle.run_ends.specs.Laws.{RunsEndSo};
-
-/// No run that has begun ends for a name that is missing or for want of main, whatever is looked up.
-pub fn runs_end_so()
-    ensures { RunsEndSo }
-{}

@@ -1,7 +1,0 @@
-use Rattle.std.proofs.Common.{◌≡◌, map, take}
-use Rattle.run_machine.proofs.OpenedRun.{call_of}
-use Rattle.run_machine.proofs.beginning.due_calls.Given as goal
-
--- the calls of the constructors so far
-abbrev pub invariant-each : goal.invariant-each
-invariant-each l = l.calls.items ≡ map call_of (take l.constructor-index l.constructor-items)

@@ -1,0 +1,9 @@
+pub mod Leaves
+pub mod Stored
+pub mod Bytes
+pub mod Ends
+pub mod Fitting
+pub mod Refusals
+pub mod Alone
+pub mod Plain
+pub mod Fours

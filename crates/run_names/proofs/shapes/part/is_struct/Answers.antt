@@ -1,0 +1,21 @@
+use Rattle.std.proofs.Common.{ap, sym}
+use Rattle.run_names.specs.Shapes.Shapes.{is_struct}
+use Rattle.run_names.proofs.shapes.part.is_struct.Goals as goal
+
+pub returns-in-Struct : goal.returns-in-Struct
+returns-in-Struct c = sym (ap is_struct c.in-Struct.ensures.shape.is)
+
+pub returns-in-Int : goal.returns-in-Int
+returns-in-Int c = sym (ap is_struct c.in-Int.ensures.shape.is)
+
+pub returns-in-Pointer : goal.returns-in-Pointer
+returns-in-Pointer c = sym (ap is_struct c.in-Pointer.ensures.shape.is)
+
+pub returns-in-Nothing : goal.returns-in-Nothing
+returns-in-Nothing c = sym (ap is_struct c.in-Nothing.ensures.shape.is)
+
+pub returns-in-Opaque : goal.returns-in-Opaque
+returns-in-Opaque c = sym (ap is_struct c.in-Opaque.ensures.shape.is)
+
+pub returns-in-Array : goal.returns-in-Array
+returns-in-Array c = sym (ap is_struct c.in-Array.ensures.shape.is)

@@ -1,5 +1,0 @@
-use Rattle.run_operands.proofs.Ended.{jump_meant}
-use Rattle.run_operands.proofs.endings.put_jump.Goals as goal
-
-pub returns-clause-action : goal.returns-clause-action
-returns-clause-action c = jump_meant c.args.scope.now c.args.from c.put_edge.new.pools c.args.to c.in_ok-edge.edge c.in_ok-edge.ensures.edge

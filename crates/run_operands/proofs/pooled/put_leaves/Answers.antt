@@ -1,5 +1,0 @@
-use Rattle.run_operands.proofs.Stands.{leaves_put}
-use Rattle.run_operands.proofs.pooled.put_leaves.Goals as goal
-
-pub returns-clause-leaves : goal.returns-clause-leaves
-returns-clause-leaves c = leaves_put c.append.result c.args.pools.now.origins _ c.args.leaves.now c.append.ensures.span c.append.ensures.items

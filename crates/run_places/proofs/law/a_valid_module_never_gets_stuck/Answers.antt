@@ -1,5 +1,0 @@
-use Rattle.run_places.proofs.Alone.{never_stuck}
-use Rattle.run_places.proofs.law.a_valid_module_never_gets_stuck.Goals as goal
-
-pub returns : goal.returns
-returns c = never_stuck

@@ -1,5 +1,0 @@
-use Rattle.run_played.proofs.Whole.{early_ends_played}
-use Rattle.run_played.proofs.law.early_ends_are_played.Goals as goal
-
-pub returns : goal.returns
-returns c = early_ends_played

@@ -1,7 +1,0 @@
-use Rattle.std.proofs.Common.{◌≡◌, drop}
-use Rattle.run_scopes.specs.Ways.{entry_from}
-use Rattle.run_scopes.proofs.ways.entry_from.Given as goal
-
--- none of the entries so far is for the block
-abbrev pub invariant-entries : goal.invariant-entries
-invariant-entries l = entry_from (drop l.entry-index l.incoming) l.from ≡ entry_from l.incoming l.from

@@ -1,5 +1,0 @@
-use Rattle.run_suits.proofs.Functions.{functions_have_values}
-use Rattle.run_suits.proofs.law.functions_of_a_checked_module_have_values.Goals as goal
-
-pub returns : goal.returns
-returns c = functions_have_values

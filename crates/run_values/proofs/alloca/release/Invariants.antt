@@ -1,9 +1,0 @@
-use Rattle.ir_memory.specs.Answer.{Keeps}
-use Rattle.run_values.proofs.Ends.{IsPartReleased}
-use Rattle.run_values.proofs.alloca.release.Given as goal
-
-abbrev pub invariant-allocas : goal.invariant-allocas
-invariant-allocas l = record {
-  part : IsPartReleased l.allocas l.initial.memory l.pointer-index l.memory;
-  kept : Keeps l.initial.memory l.memory;
-}

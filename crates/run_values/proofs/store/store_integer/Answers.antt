@@ -1,7 +1,0 @@
-use Rattle.run_values.proofs.Alone.{stored_alone}
-use Rattle.run_values.proofs.store.store_integer.Goals as goal
-
-pub returns-clause-stored : goal.returns-clause-stored
-returns-clause-stored c = λ done.
-    stored_alone c.args.memory.now c.store_plain.new.self c.args.pointer c.behind.result c.args.align c.offset.result c.args.count c.args.number c.args.slot c.offset.ensures c.behind.ensures
-    c.requires.leaf (c.store_plain.ensures.stored done)

@@ -1,5 +1,0 @@
-use Rattle.run_values.proofs.Bytes.{IsPartRead}
-use Rattle.run_values.proofs.string.push_bytes.Given as goal
-
-abbrev pub invariant-bytes : goal.invariant-bytes
-invariant-bytes l = IsPartRead l.memory l.fn.pointer l.most l._read l.place l.initial.into.items l.into.items

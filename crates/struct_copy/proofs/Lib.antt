@@ -1,2 +1,0 @@
-mod StructsNamed
-pub mod StructsDefined

@@ -1,4 +1,0 @@
-mod Searching
-mod Holding
-mod Bridge
-mod Rising

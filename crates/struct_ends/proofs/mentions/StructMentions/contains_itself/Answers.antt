@@ -1,5 +1,0 @@
-use Rattle.std.proofs.Common.{sym, refl}
-use Rattle.struct_ends.proofs.mentions.StructMentions.contains_itself.Goals as goal
-
-pub returns-then-rises : goal.returns-then-rises
-returns-then-rises c = sym (c.if-rises.ensures refl)

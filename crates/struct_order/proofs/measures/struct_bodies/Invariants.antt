@@ -1,8 +1,0 @@
-use Rattle.std.proofs.Common.{◌≡◌, take}
-use Rattle.ir_syntax.specs.View.{items_view}
-use Rattle.name_rules.specs.ModuleOf.{structs_in}
-use Rattle.struct_order.specs.Measuring.{bodies_in, bodies_of}
-use Rattle.struct_order.proofs.measures.struct_bodies.Given as goal
-
-abbrev pub invariant-items : goal.invariant-items
-invariant-items l = bodies_in l.bodies.items ≡ bodies_of (structs_in (items_view (take l.item-index l.item-items)))

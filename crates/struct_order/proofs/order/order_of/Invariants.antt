@@ -1,9 +1,0 @@
-use Rattle.std.proofs.Common.{length, ◌-◌}
-use Rattle.struct_order.specs.Order.{IsSettling, mention_lists}
-use Rattle.struct_order.proofs.order.order_of.Given as goal
-
-abbrev pub invariant-goes : goal.invariant-goes
-invariant-goes l = IsSettling (mention_lists l.mentions) l.settling.settled.items l.settling.order.items
-
-abbrev pub decreases-goes : goal.decreases-goes
-decreases-goes l = length l.mentions - length l.settling.order.items

@@ -1,5 +1,0 @@
-use Rattle.struct_order.specs.Order.{IsSettling, mention_lists}
-use Rattle.struct_order.proofs.order.settle_some.Given as goal
-
-abbrev pub invariant-candidates : goal.invariant-candidates
-invariant-candidates l = IsSettling (mention_lists l.mentions) l.settling.settled.items l.settling.order.items

@@ -1,7 +1,0 @@
-mod Firsts
-mod Fresh
-mod Rowed
-mod Parts
-mod Avoiding
-mod Adding
-pub mod Ending

@@ -1,6 +1,0 @@
-use Rattle.module_arena.specs.declared.constant.Const.TheVariants as const
-use Rattle.type_build.proofs.Growing.{constant_found}
-use Rattle.type_build.proofs.builder.Builder.keep_entry.Goals as goal
-
-pub returns-in-Some-clause-is : goal.returns-in-Some-clause-is
-returns-in-Some-clause-is c = constant_found c.args.self.now.arena c.variable_count-good.ensures.good c.in-Some.id (const.Address c.args.entry.now) c.in-Some.ensures

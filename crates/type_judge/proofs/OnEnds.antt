@@ -1,0 +1,4 @@
+pub mod Searching
+pub mod Holding
+pub mod Bridge
+pub mod Rising

@@ -1,5 +1,0 @@
-use Rattle.typed_look.proofs.Alone.{callees_are_typed}
-use Rattle.typed_look.proofs.law.what_an_address_has_is_typed.Goals as goal
-
-pub returns : goal.returns
-returns c = callees_are_typed

@@ -1,5 +1,0 @@
-use Rattle.typed_module.proofs.Program.{valid_is_typed}
-use Rattle.typed_module.proofs.law.a_valid_module_is_typed.Goals as goal
-
-pub returns : goal.returns
-returns c = valid_is_typed

@@ -1,6 +1,0 @@
-use Rattle.std.proofs.Common.{◌≡◌, map, take}
-use Rattle.use_verify.proofs.phis.blocks_of.Given as goal
-
--- those of the first entries
-abbrev pub invariant-entries : goal.invariant-entries
-invariant-entries l = l.blocks.items ≡ map (λ i. i.block) (take l.entry-index l.incoming)

@@ -1,7 +1,0 @@
-use Rattle.std.proofs.Common.{◌≡◌, ℕ, [], length}
-use Rattle.use_verify.specs.Edges.{source_of}
-use Rattle.use_verify.proofs.sources.no_sources.Given as goal
-
--- a list for each block so far
-abbrev pub invariant-lists : goal.invariant-lists
-invariant-lists l = (length l.sources.items ≡ l._number) × ((b : ℕ) → source_of l.sources.items b ≡ [])
