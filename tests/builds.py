@@ -38,8 +38,8 @@ class Build:
 BUILDS = {
     "make": Build("make", ["make"], [["make"]], ["make", "check"], "out"),
     "ninja": Build("ninja", ["ninja"], [["ninja"]], ["ninja", "check"], "out"),
-    "cmake": Build("cmake", ["cmake", "make"], [["cmake", "-B", "out"], ["cmake", "--build", "out"]],
-                   ["ctest", "--test-dir", "out"], "out"),
+    "cmake": Build("cmake", ["cmake", "make"], [["cmake", "-B", "out"],
+                   ["cmake", "--build", "out"]], ["ctest", "--test-dir", "out"], "out"),
     "cmake-ninja": Build("cmake", ["cmake", "ninja"], [["cmake", "-G", "Ninja", "-B", "out"],
                          ["cmake", "--build", "out"]], ["ctest", "--test-dir", "out"], "out"),
     "bazel": Build("bazel", ["bazel"], [[*BAZEL, "build", "words"]], [*BAZEL, "test", "words_test"],
@@ -106,8 +106,10 @@ def wrong(name, tool):
         first, second = copied(tool, room), copied(tool, other)
         for examples in (first, second):
             made_by(build, examples / build.folder)
-        one, two = (outputs(examples / build.folder / build.out) for examples in (first, second))
-        if {it: data for it, (_, data) in one.items()} != {it: data for it, (_, data) in two.items()}:
+        one, two = ({name: data for name, (_, data) in
+                     outputs(examples / build.folder / build.out).items()}
+                    for examples in (first, second))
+        if one != two:
             yield f"{name}: a copy at another place has other bytes"
         shutil.rmtree(second)
         second = copied(tool, pathlib.Path(other) / "again")

@@ -35,7 +35,8 @@ def native(level, room):
              called("nm", "--defined-only", "-g", f"{room}/libc.o").decode().splitlines()]
     pathlib.Path(f"{room}/names").write_text("".join(f"{it} our_{it}\n" for it in names))
     for name in SOURCES:
-        called("objcopy", f"--redefine-syms={room}/names", f"{room}/{name}.o", f"{room}/our_{name}.o")
+        called("objcopy", f"--redefine-syms={room}/names", f"{room}/{name}.o",
+               f"{room}/our_{name}.o")
     called("clang-19", "-no-pie", "-o", f"{room}/theirs", f"{room}/cases.o")
     called("clang-19", "-no-pie", "-o", f"{room}/ours", f"{room}/our_cases.o", f"{room}/our_libc.o")
     return f"{room}/theirs", f"{room}/ours"

@@ -159,7 +159,7 @@ static void numbers(void) {
     char text[64], *end = text;
     size_t count = below(26), from = below(2) ? 0 : 8;
     for (size_t i = 0; i < count; i++)
-        text[i] = bytes[below(2) ? from + below(sizeof bytes - 1 - (unsigned)from) : from + below(15)];
+        text[i] = bytes[from + below(below(2) ? sizeof bytes - 1 - (unsigned)from : 15)];
     text[count] = 0;
     int base = below(2) ? 10 : below(2) ? 0 : (int)below(39) - 1;
     errno = 0;
