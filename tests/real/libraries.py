@@ -23,7 +23,8 @@ SODIUM = """aead/chacha20poly1305/sodium/* auth/hmacsha256/* core/ed25519/ref10/
     stream/chacha20/* stream/chacha20/ref/* stream/salsa20/* stream/salsa20/ref/*
     stream/xsalsa20/* verify/sodium/*"""
 # The folder of the package in which the files are, the files, the flags, and further words:
-# which files the census takes beside these, and the input of the driver.
+# which files the census takes beside these, the input of the driver, and the package where it has
+# another name.
 ROWS = {
     "zlib": (".", "adler32 compress crc32 deflate infback inffast inflate inftrees trees uncompr "
              "zutil", "-I. -DZ_HAVE_UNISTD_H", {"census": "*"}),
@@ -31,6 +32,8 @@ ROWS = {
               "-I. -DBZ_NO_STDIO", {"census": "bzlib compress bzip2 bzip2recover"}),
     "libsecp256k1": (".", "src/secp256k1 src/precomputed_ecmult src/precomputed_ecmult_gen",
                      f"-I. -Iinclude -Isrc {SECP}", {"census": "src/*"}),
+    "libsecp256k1-tests": (".", "src/precomputed_ecmult src/precomputed_ecmult_gen",
+                           f"-I. -Iinclude -Isrc {SECP}", {"package": "libsecp256k1"}),
     "lz4": ("lib", "lz4 lz4hc xxhash", "-I. -fwrapv", {"census": "*"}),
     "xxhash": (".", "xxhash", "-I. -DXXH_VECTOR=0", {"census": "*"}),
     "brotli": ("c", "common/* dec/*", "-Iinclude -DBROTLI_BUILD_PORTABLE", {
@@ -52,14 +55,17 @@ class Library:
 
     def __init__(self, name, sources):
         inside, files, flags, more = ROWS[name]
-        found = sorted(path for path in pathlib.Path(sources).glob(f"{name}-*") if path.is_dir())
+        package = more.get("package", name)
+        found = sorted(path for path in pathlib.Path(sources).glob(f"{package}-[0-9]*")
+                       if path.is_dir())
         self.name, self.package = name, found[0] if found else None
         self.flags, self.driver = flags.split(), HERE / f"{name}.c"
         if self.package is None:
             return
         self.folder = self.package / inside
         self.files = self.chosen(files)
-        self.more = [path for path in self.chosen(more["census"]) if path not in self.files]
+        self.more = [path for path in self.chosen(more.get("census", ""))
+                     if path not in self.files]
         self.input = (self.package / more["input"]).read_bytes() if "input" in more else b""
 
     def chosen(self, patterns):
@@ -71,3 +77,5 @@ class Library:
 
 # The libraries that have a driver, in the order of the table.
 DRIVEN = [name for name in ROWS if ROWS[name][1]]
+# Those whose files the census counts: one row a package.
+COUNTED = [name for name in ROWS if "package" not in ROWS[name][3]]
