@@ -1,5 +1,5 @@
 -- For `put`, `get` and the other calls of `MemoryFiles`: files in memory.
-use Rattle.std.specs.Prelude.{ℕ, Bool, nat_le, List, length, Option, Some, None, Result, Ok, Err, bytes_eq, if◌then◌else◌}
+use Rattle.std.specs.Prelude.{◌≡◌, ◌⊎◌, ℕ, Bool, nat_le, List, length, Option, Some, None, Result, Ok, Err, bytes_eq, IsTrue, if◌then◌else◌}
 use Rattle.std.specs.Map.{lookup}
 use Rattle.ir_base.specs.Calls.{next_count, next_fails}
 use Rattle.ir_base.specs.Files.{Named}
@@ -52,3 +52,7 @@ after_write state files =
       calls = next_count state.calls;
       write_faults = counted (fails_next state) state.write_faults;
     }
+
+-- a read of this name fails: its call is planned to fail, or there is no file of this name
+abbrev pub ReadFails : FilesState → List ℕ → Type 0
+ReadFails state name = IsTrue (fails_next state) ⊎ (files_named state name ≡ None)

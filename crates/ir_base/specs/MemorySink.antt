@@ -1,5 +1,5 @@
 -- For all calls of `MemorySink`: a sink in memory.
-use Rattle.std.specs.Prelude.{◌≡◌, ℕ, ◌+◌, Bool, not, ◌&&◌, List, length, if◌then◌else◌}
+use Rattle.std.specs.Prelude.{◌≡◌, ◌⊎◌, ℕ, ◌+◌, Bool, not, ◌&&◌, List, length, IsTrue, if◌then◌else◌}
 use Rattle.ir_base.specs.Calls.{named_calls, next_count, next_fails}
 
 -- the bytes taken, how many there is room for, the numbers of the calls that fail, how many calls were made, and how
@@ -23,3 +23,7 @@ IsFull sink = length sink.taken ≡ sink.capacity
 abbrev pub full_calls_behind : SinkState → Bool → ℕ
 full_calls_behind sink failed =
     (if failed && not (next_fails sink.fails sink.calls) then next_count sink.full_calls else sink.full_calls)
+
+-- a write fails: its call is planned to fail, or the sink is full
+abbrev pub WriteFails : SinkState → Type 0
+WriteFails sink = IsTrue (next_fails sink.fails sink.calls) ⊎ IsFull sink

@@ -1,9 +1,9 @@
 //! Files in memory.
-ghost use Rattle.std.specs.Prelude.{◌≡◌, ◌≢◌, ◌⊎◌, ◌≤◌, ℕ, List, [], length, Option, Some, None, Ok, Err, OnOk, OnErr, IfOk, IfSome, IsErr, IsErrOf, MatchBool};
+ghost use Rattle.std.specs.Prelude.{◌≡◌, ◌≢◌, ◌⊎◌, ◌↔◌, ◌≤◌, ℕ, List, [], length, Option, Some, None, Ok, Err, OnOk, OnErr, IfOk, IfSome, IsErr, IsErrOf, IsTrue, MatchBool};
 ghost use Rattle.std.specs.Option.{option_copied};
 ghost use Rattle.ir_base.specs.Answers.{Answers};
 ghost use Rattle.ir_base.specs.Files.{Holds, HoldsFront, IsMissing, IsOver, ReadsFrom, with_file};
-ghost use Rattle.ir_base.specs.MemoryFiles.{after_read, after_write, fails_next, files_named, named_in, within_limit};
+ghost use Rattle.ir_base.specs.MemoryFiles.{ReadFails, after_read, after_write, fails_next, files_named, named_in, within_limit};
 ghost use Rattle.ir_base.specs.Outside.{Rose};
 
 use crate::failing_calls::FailingCalls;
@@ -94,6 +94,13 @@ impl Files for MemoryFiles {
         ensures rose { IsErrOf result FileFault.Failed →
             Rose self.old.read_faults self.new.read_faults ⊎ IsMissing (Some (files_named self.old)) name.now }
         ensures later { self.old.read_faults ≤ self.new.read_faults }
+        ensures may_fail { IsErrOf result FileFault.Failed → ReadFails self.old name.now }
+        ensures planned { IsTrue (fails_next self.old) → IsErrOf result FileFault.Failed }
+        ensures missing { files_named self.old name.now ≡ None →
+            IsErrOf result FileFault.Failed ⊎ IsErrOf result FileFault.Memory }
+        ensures large { IsErrOf result FileFault.TooLarge →
+            IsOver limit (files_named self.old) name.now }
+        ensures over { IsOver limit (files_named self.old) name.now → IsErr result }
     {
         if self.calls.next_fails() {
             self.read_failures = self.read_failures.saturating_add(1);
@@ -116,6 +123,7 @@ impl Files for MemoryFiles {
         ensures kept { OnErr result (self.new.files ≡ self.old.files) }
         ensures rose { IsErrOf result FileFault.Failed → Rose self.old.write_faults self.new.write_faults }
         ensures later { self.old.write_faults ≤ self.new.write_faults }
+        ensures when { IsErrOf result FileFault.Failed ↔ IsTrue (fails_next self.old) }
     {
         if self.calls.next_fails() {
             self.write_failures = self.write_failures.saturating_add(1);

@@ -1,11 +1,11 @@
 //! A sink in memory.
 ghost use Rattle.std.specs.Prelude.{◌≡◌, ◌↔◌, ◌⊎◌, ◌<◌, ◌≤◌, ◌-◌, ℕ, List, [], Some, IsTrue, IsErr, is_err, min, length, take, Option, IfOk, OnOk, OnErr};
 ghost use Rattle.ir_base.specs.Calls.{next_count, next_fails};
-ghost use Rattle.ir_base.specs.MemorySink.{IsFull, full_calls_behind, sink_faults};
+ghost use Rattle.ir_base.specs.MemorySink.{IsFull, WriteFails, full_calls_behind, sink_faults};
 ghost use Rattle.ir_base.specs.Outside.{Rose, Added};
 
 use crate::failing_calls::FailingCalls;
-use crate::{Failed, NumberList, Sink, Text};
+use crate::{Failed, NumberList, Sink};
 use std::alloc::{AllocError, Global};
 use std::marker::Model;
 
@@ -21,21 +21,28 @@ use std::marker::Model;
 /// ```
 #[derive(Debug, Drop)]
 pub struct MemorySink {
-    taken: Text,
+    // The bytes taken, with room from the start for as many as the sink takes.
+    taken: Vec<u8>,
     capacity: usize,
     calls: FailingCalls,
     full_calls: u64,
 }
 
 impl Model for MemorySink {
-    ghost use Rattle.std.specs.Prelude.{◌≤◌, length};
+    ghost use Rattle.std.specs.Prelude.{◌≤◌, vec_len, vec_capacity};
     ghost use Rattle.ir_base.specs.MemorySink.{SinkState};
 
     ghost Value = { SinkState };
 
-    ghost view = { λ s. record { taken = s.taken; capacity = s.capacity; fails = s.calls.fails; calls = s.calls.made; full_calls = s.full_calls } };
+    ghost view = { λ s. record {
+      taken = s.taken.items;
+      capacity = s.capacity;
+      fails = s.calls.fails;
+      calls = s.calls.made;
+      full_calls = s.full_calls;
+    } };
 
-    ghost invariant = { λ s. length s.taken ≤ s.capacity };
+    ghost invariant = { λ s. (vec_len s.taken ≤ s.capacity) × (s.capacity ≤ vec_capacity s.taken) };
 }
 
 impl MemorySink {
@@ -47,7 +54,7 @@ impl MemorySink {
     {
         let capacity = capacity as usize;
         Ok(MemorySink {
-            taken: Text::from_vec(Vec::with_capacity(alloc, capacity)?),
+            taken: Vec::with_capacity(alloc, capacity)?,
             capacity,
             calls: FailingCalls::new(fails),
             full_calls: 0,
@@ -55,10 +62,10 @@ impl MemorySink {
     }
 
     /// The bytes that it has taken.
-    pub fn taken(&self) -> &Text
+    pub fn taken(&self) -> &[u8]
         ensures { result.now ≡ self.now.taken }
     {
-        &self.taken
+        self.taken.as_slice()
     }
 }
 
@@ -85,17 +92,20 @@ impl Sink for MemorySink {
         ensures full_calls { self.new.full_calls ≡ full_calls_behind self.old (is_err result) }
         ensures fails { self.new.fails ≡ self.old.fails }
         ensures calls { self.new.calls ≡ next_count self.old.calls }
+        ensures when { IsErr result ↔ WriteFails self.old }
+        ensures same_room { self.new.capacity ≡ self.old.capacity }
     {
         if self.calls.next_fails() {
             return Err(Failed);
         }
-        let n = piece.len().min(self.capacity - self.taken.bytes().len());
-        if n == 0 || self.taken.extend(&piece[..n]).is_err() {
-            // The room was made at the start. Were it not there, the sink would be full from here on.
-            self.capacity = self.taken.bytes().len();
+        let n = piece.len().min(self.capacity - self.taken.len());
+        if n == 0 {
             self.full_calls = self.full_calls.saturating_add(1);
             return Err(Failed);
         }
+        // The room was made at the start, so this takes no memory.
+        let is_added = self.taken.extend_from_slice(&piece[..n]).is_ok();
+        prove!(is_added);
         Ok(n)
     }
 }

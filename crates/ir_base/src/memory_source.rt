@@ -1,7 +1,7 @@
 //! A source in memory.
 ghost use Rattle.std.specs.Prelude.{◌≡◌, ◌↔◌, ◌⊎◌, ◌<◌, ◌≤◌, ℕ, List, [], Some, IsTrue, IsErr, min, length, take, Option, IfOk, IfSome, OnOk, OnErr};
 ghost use Rattle.ir_base.specs.Calls.{next_count, next_fails};
-ghost use Rattle.ir_base.specs.MemorySource.{source_faults};
+ghost use Rattle.ir_base.specs.MemorySource.{after_read, read_answer, source_faults};
 ghost use Rattle.ir_base.specs.Outside.{Rose, Lost};
 
 use crate::failing_calls::FailingCalls;
@@ -72,6 +72,8 @@ impl Source for MemorySource {
         ensures fails { self.new.fails ≡ self.old.fails }
         ensures calls { self.new.calls ≡ next_count self.old.calls }
         ensures none { self.new.fails ≡ [] → source_faults self.new ≡ 0 }
+        ensures answer { result ≡ read_answer self.old (length into.old) }
+        ensures after { self.new ≡ after_read self.old (length into.old) }
     {
         if self.calls.next_fails() {
             return Err(Failed);

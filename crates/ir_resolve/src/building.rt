@@ -23,17 +23,24 @@ use module_arena::Arena;
 use std::alloc::{AllocError, Global};
 use type_judge::order::dependency_order;
 
-/// The texts and the structs of the items, and no entries. The structs get their bodies in the order of these numbers first.
-fn begin(alloc: Global, items: &[Item], order: &[u32]) -> Result<Builder, AllocError>
+/// The texts and the structs of the items, and no entries, in an arena that has nothing yet. The
+/// structs get their bodies in the order of these numbers first.
+fn begin(
+    builder: &mut Builder,
+    alloc: Global,
+    items: &[Item],
+    order: &[u32],
+) -> Result<(), AllocError>
     requires buildable { AreBuildable (items_view items.now) }
     requires unbroken { first_break (items_view items.now) ≡ None }
-    ensures module { IfOk result (λ builder. module_of builder.arena ≡ without_entries (items_view items.now)) }
-    ensures empty { IfOk result (λ builder. entries builder.arena ≡ no_lists) }
+    requires nothing { builder.old.arena ≡ no_lists }
+    ensures module { OnOk result
+        (module_of builder.new.arena ≡ without_entries (items_view items.now)) }
+    ensures empty { OnOk result (entries builder.new.arena ≡ no_lists) }
 {
-    let mut builder = Builder::new(alloc);
-    set_texts(&mut builder, alloc, items)?;
-    build_structs(&mut builder, alloc, items, order)?;
-    Ok(builder)
+    set_texts(builder, alloc, items)?;
+    build_structs(builder, alloc, items, order)?;
+    Ok(())
 }
 
 /// Declares the entries of the items, and then completes them, where the arena has their structs and no entries.
@@ -52,6 +59,33 @@ fn build_entries(builder: &mut Builder, alloc: Global, items: &[Item]) -> Result
     Ok(())
 }
 
+/// Builds what the items define, in an arena that has nothing yet. The builder is borrowed, so that
+/// no exit here drops it. The structs get their bodies in the order of these numbers first.
+fn build_all(
+    builder: &mut Builder,
+    alloc: Global,
+    items: &[Item],
+    order: &[u32],
+) -> Result<(), AllocError>
+    requires buildable { AreBuildable (items_view items.now) }
+    requires few { counted (items_view items.now) ≤ most_counted }
+    requires unbroken { first_break (items_view items.now) ≡ None }
+    requires nothing { builder.old.arena ≡ no_lists }
+    ensures { OnOk result (module_of builder.new.arena ≡ module_of_items (items_view items.now)) }
+{
+    begin(builder, alloc, items, order)?;
+    build_entries(builder, alloc, items)?;
+    Ok(())
+}
+
+/// The arena, without the tables that building it needed.
+fn into_arena(builder: Builder) -> Arena
+    ensures { result ≡ builder.arena }
+{
+    let Builder { arena, .. } = builder;
+    arena
+}
+
 /// The arena of these items: texts, structs, variables, aliases and functions in the order of the text. The structs get their
 /// bodies in the order of these numbers first. It is refused for want of memory alone.
 pub(crate) fn build_items(alloc: Global, items: &[Item], order: &[u32]) -> Result<Arena, AllocError>
@@ -60,10 +94,9 @@ pub(crate) fn build_items(alloc: Global, items: &[Item], order: &[u32]) -> Resul
     requires unbroken { first_break (items_view items.now) ≡ None }
     ensures { IfOk result (λ arena. module_of arena ≡ module_of_items (items_view items.now)) }
 {
-    let mut builder = begin(alloc, items, order)?;
-    build_entries(&mut builder, alloc, items)?;
-    let Builder { arena, .. } = builder;
-    Ok(arena)
+    let mut builder = Builder::new(alloc);
+    build_all(&mut builder, alloc, items, order)?;
+    Ok(into_arena(builder))
 }
 
 /// The arena of the items of a text, which break no rule of names and numbers. It is refused for want of memory alone.

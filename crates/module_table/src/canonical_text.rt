@@ -22,7 +22,7 @@ fn print_text(rt: &HostRuntime, text: &[u8]) -> io::Result<()> {
     let mut out = Gathered::new();
     put_module(&mut out, &mut sink, &arena);
     match out.finish(&mut sink) {
-        Ok(()) => rt.stdout().write_all(sink.taken().bytes()),
+        Ok(()) => rt.stdout().write_all(sink.taken()),
         Err(_) => println!(rt; "too large"),
     }
 }

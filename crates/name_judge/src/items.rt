@@ -2,7 +2,7 @@
 ghost use Rattle.std.specs.Prelude.{◌≡◌, ◌<◌, ◌^◌, OnOk, List, [], ◌∷◌, ◌++◌, length};
 ghost use Rattle.ir_syntax.specs.Tree.{ItemTree};
 ghost use Rattle.ir_syntax.specs.View.{item_view, items_view};
-ghost use Rattle.name_rules.specs.Breaks.{item_demands, demands};
+ghost use Rattle.name_rules.specs.Breaks.{item_demands, demands, demands_behind, known_in};
 ghost use Rattle.name_rules.specs.ModuleOf.{structs_in};
 ghost use Rattle.type_judge.specs.Gathered.{IsKnown, known_of};
 ghost use Rattle.type_judge.specs.Judging.{IsJudged};
@@ -60,6 +60,60 @@ fn check_item<'a>(
     }
 }
 
+/// The items of a text, each behind those before it, from tables that are empty. The tables of
+/// locals may be those of any function. All are borrowed, so that no exit of the loop drops them.
+fn check_each<'a>(
+    alloc: Global,
+    known: &Known,
+    mentions: &StructMentions,
+    seen: &mut Seen<'a>,
+    globals: &mut NameTable<'a, Place>,
+    tables: &mut LocalTables<'a>,
+    items: &'a [Item],
+) -> Result<(), ResolveFault>
+    requires known { IsKnown known.now }
+    requires mentions { AreMentions mentions.now }
+    requires structs { structs_of mentions.now ≡ (known_of known.now).structs }
+    requires items { known_of known.now ≡ known_in (items_view items.now) }
+    requires seen { IsSeen seen.old [] }
+    requires globals { globals.old ≡ [] }
+    ensures { IsJudged (demands_behind (known_of known.now) [] (items_view items.now)) result }
+{
+    let distinct = known.are_distinct();
+    'items: for item in items {
+        let earlier = earlier_global(distinct, globals, item)?;
+        check_item(alloc, known, mentions, seen, tables, earlier, item)?;
+    }
+    Ok(())
+}
+
+/// The items of a text, where what they define is gathered.
+fn check_gathered(
+    alloc: Global,
+    known: &Known,
+    mentions: &StructMentions,
+    items: &[Item],
+) -> Result<(), ResolveFault>
+    requires known { IsKnown known.now }
+    requires mentions { AreMentions mentions.now }
+    requires structs { structs_of mentions.now ≡ (known_of known.now).structs }
+    requires items { known_of known.now ≡ known_in (items_view items.now) }
+    ensures { IsJudged (demands_behind (known_of known.now) [] (items_view items.now)) result }
+{
+    let mut seen = nothing_seen(alloc);
+    let mut globals = NameTable::new(alloc);
+    let mut tables = LocalTables::new(alloc);
+    check_each(
+        alloc,
+        known,
+        mentions,
+        &mut seen,
+        &mut globals,
+        &mut tables,
+        items,
+    )
+}
+
 /// The items of a text, each behind those before it.
 pub(crate) fn check_items(alloc: Global, items: &Items) -> Result<(), ResolveFault>
     requires few { length (structs_in (items_view items.now)) < 2 ^ 32 }
@@ -67,21 +121,5 @@ pub(crate) fn check_items(alloc: Global, items: &Items) -> Result<(), ResolveFau
 {
     let known = Known::of_items(alloc, items)?;
     let mentions = StructMentions::of_items(alloc, items)?;
-    let distinct = known.are_distinct();
-    let mut seen = nothing_seen(alloc);
-    let mut globals = NameTable::new(alloc);
-    let mut tables = LocalTables::new(alloc);
-    'items: for item in items.as_slice() {
-        let earlier = earlier_global(distinct, &mut globals, item)?;
-        check_item(
-            alloc,
-            &known,
-            &mentions,
-            &mut seen,
-            &mut tables,
-            earlier,
-            item,
-        )?;
-    }
-    Ok(())
+    check_gathered(alloc, &known, &mentions, items.as_slice())
 }

@@ -34,7 +34,7 @@ pub fn answer(alloc: Global, word: &str, bytes: &[u8]) -> Result<String, AllocEr
         put_fault(&mut out, fault)?;
     }
     out.push_str("\n")?;
-    for byte in sink.taken().bytes() {
+    for byte in sink.taken() {
         out.push(char::from(*byte))?;
     }
     if word == "short" {

@@ -293,8 +293,8 @@ impl Stage {
         add_names(told, outcome.files.read())?;
         add_given(told, alloc, outcome.given)?;
         self.keep(alloc, &outcome.files, told)?;
-        add_stream(told, "output", outcome.output.taken().bytes())?;
-        add_stream(told, "errors", outcome.errors.taken().bytes())
+        add_stream(told, "output", outcome.output.taken())?;
+        add_stream(told, "errors", outcome.errors.taken())
     }
 }
 

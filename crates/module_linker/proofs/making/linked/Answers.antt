@@ -18,16 +18,26 @@ declare_module-requires-clause-names c = rw c.as_slice-all.ensures.value c.requi
 pub declare_module-requires-clause-numbers : goal.declare_module-requires-clause-numbers
 declare_module-requires-clause-numbers c = rw c.as_slice-all.ensures.value c.requires.numbers
 
-pub define_symbols-requires-clause-declared : goal.define_symbols-requires-clause-declared
-define_symbols-requires-clause-declared c = c.in_ok-made.ensures.module ∙ ap (λ (ps : List Lists). declared (modules ps)) c.as_slice-all.ensures.value
+pub define_module-requires-clause-declared : goal.define_module-requires-clause-declared
+define_module-requires-clause-declared c =
+    c.in_ok-made.ensures.module
+    ∙ ap (λ (ps : List Lists). declared (modules ps)) c.as_slice-all.ensures.value
 
-pub define_symbols-requires-clause-copied : goal.define_symbols-requires-clause-copied
-define_symbols-requires-clause-copied c =
-    rw c.deref.ensures.value (subst (λ (ps : List Lists). AreCopied ps c.in_ok-made.made.arena c.in_ok-made.made.copiers.items) c.as_slice-all.ensures.value c.in_ok-made.ensures.copied)
+pub define_module-requires-clause-copied : goal.define_module-requires-clause-copied
+define_module-requires-clause-copied c =
+    let made = c.in_ok-made.made in
+    subst (λ (ps : List Lists). AreCopied ps made.arena made.entries.copiers.items)
+    c.as_slice-all.ensures.value
+    c.in_ok-made.ensures.copied
 
-pub define_symbols-requires-clause-new : goal.define_symbols-requires-clause-new
-define_symbols-requires-clause-new c =
-    rw c.deref.ensures.value (subst (λ (ps : List Lists). AllHaveNewIds ps c.in_ok-made.made.arena c.in_ok-made.made.copiers.items) c.as_slice-all.ensures.value c.in_ok-made.ensures.new)
+pub define_module-requires-clause-new : goal.define_module-requires-clause-new
+define_module-requires-clause-new c =
+    let made = c.in_ok-made.made in
+    subst (λ (ps : List Lists). AllHaveNewIds ps made.arena made.entries.copiers.items)
+    c.as_slice-all.ensures.value
+    c.in_ok-made.ensures.new
 
-pub define_symbols-requires-clause-ids : goal.define_symbols-requires-clause-ids
-define_symbols-requires-clause-ids c = c.deref-2.ensures.value ∙ c.in_ok-made.ensures.ids ∙ ap (λ (ps : List Lists). ids_of (modules ps)) c.as_slice-all.ensures.value
+pub define_module-requires-clause-ids : goal.define_module-requires-clause-ids
+define_module-requires-clause-ids c =
+    c.in_ok-made.ensures.ids
+    ∙ ap (λ (ps : List Lists). ids_of (modules ps)) c.as_slice-all.ensures.value

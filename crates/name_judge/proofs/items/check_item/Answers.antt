@@ -1,6 +1,7 @@
-use Rattle.std.proofs.Common.{ap, sym, subst, ◌∙◌, ◌++◌, map}
+use Rattle.std.proofs.Common.{ap, sym, subst, refl, ◌∙◌, ◌++◌, map, Option, Ok}
 use Rattle.std.specs.Prelude.{filter_map, flat_map}
 use Rattle.std.proofs.lemmas.Result.{on_ok_weaker}
+use Rattle.ir_base.specs.declared.place.Place.{Place}
 use Rattle.ir_syntax.specs.declared.item.Item.{Item}
 use Rattle.ir_syntax.specs.declared.item.WrittenVariable as the_variable
 use Rattle.ir_syntax.specs.declared.item.WrittenAlias as the_alias
@@ -10,7 +11,7 @@ use Rattle.ir_phrases.specs.Instructions.View.{block_view}
 use Rattle.ir_syntax.specs.Functions.{parameter_types}
 use Rattle.ir_syntax.specs.View.{item_view, body_view, variable_view, alias_view, head_view, parameter_view}
 use Rattle.name_rules.specs.Breaks.{struct_name, global_name, source_place, layout_place, triple_place, variable_demands, alias_demands, head_demands, item_demands}
-use Rattle.name_rules.specs.Demand.{place_of_name}
+use Rattle.name_rules.specs.Demand.{is_first, place_of_name}
 use Rattle.name_rules.specs.FunctionDemands.{definition_demands}
 use Rattle.name_rules.specs.TypeDemands.{type_demands}
 use Rattle.type_judge.specs.Gathered.{known_of}
@@ -132,3 +133,50 @@ returns-in-Definition-clause-judged c before are e =
     let same = e ∙ ap (λ (x : Item). earlier_of before (item_view x)) c.in-Definition.is ∙ ap (λ (v : the_definition.Definition). place_of_name names v.head.name.name) (sym c.deref-in-Definition.ensures) in
     subst (λ (x : Item). IsJudged (item_demands known before (item_view x)) c.check_function.result) (sym c.in-Definition.is)
     (subst (λ (v : the_definition.Definition). IsJudged (head_demands known names (head_view v.head) ++ definition_demands known (map parameter_view v.parameters.items) (map block_view v.blocks.items)) c.check_function.result) c.deref-in-Definition.ensures (c.check_function.ensures names same))
+
+pub returns-in-SourceFilename-clause-judged : goal.returns-in-SourceFilename-clause-judged
+returns-in-SourceFilename-clause-judged c before are e =
+    let known = known_of c.args.known.now in
+    let r = c.check_first.result in
+    subst (λ (x : Item). IsJudged (item_demands known before (item_view x)) r)
+    (sym c.in-SourceFilename.is)
+    (subst (λ (first : Option Place). IsJudged (is_first c.in-SourceFilename.place first) r)
+    are.source c.check_first.ensures.judged)
+
+pub returns-in-DataLayout-clause-judged : goal.returns-in-DataLayout-clause-judged
+returns-in-DataLayout-clause-judged c before are e =
+    let known = known_of c.args.known.now in
+    let r = c.check_first-in-DataLayout.result in
+    subst (λ (x : Item). IsJudged (item_demands known before (item_view x)) r)
+    (sym c.in-DataLayout.is)
+    (subst (λ (first : Option Place). IsJudged (is_first c.in-DataLayout.place first) r)
+    are.layout c.check_first-in-DataLayout.ensures.judged)
+
+pub returns-in-TargetTriple-clause-judged : goal.returns-in-TargetTriple-clause-judged
+returns-in-TargetTriple-clause-judged c before are e =
+    let known = known_of c.args.known.now in
+    let r = c.check_first-in-TargetTriple.result in
+    subst (λ (x : Item). IsJudged (item_demands known before (item_view x)) r)
+    (sym c.in-TargetTriple.is)
+    (subst (λ (first : Option Place). IsJudged (is_first c.in-TargetTriple.place first) r)
+    are.triple c.check_first-in-TargetTriple.ensures.judged)
+
+pub returns-in-Struct-clause-judged : goal.returns-in-Struct-clause-judged
+returns-in-Struct-clause-judged c before are e =
+    let known = known_of c.args.known.now in
+    let r = c.check_struct.result in
+    subst (λ (x : Item). IsJudged (item_demands known before (item_view x)) r)
+    (sym c.in-Struct.is)
+    (c.check_struct.ensures.judged (filter_map struct_name before) are.structs)
+
+pub returns-in-Attributes-clause-judged : goal.returns-in-Attributes-clause-judged
+returns-in-Attributes-clause-judged c before are e =
+    let known = known_of c.args.known.now in
+    subst (λ (x : Item). IsJudged (item_demands known before (item_view x)) (Ok tt))
+    (sym c.in-Attributes.is) (record { told = refl })
+
+pub returns-in-Metadata-clause-judged : goal.returns-in-Metadata-clause-judged
+returns-in-Metadata-clause-judged c before are e =
+    let known = known_of c.args.known.now in
+    subst (λ (x : Item). IsJudged (item_demands known before (item_view x)) (Ok tt))
+    (sym c.in-Metadata.is) (record { told = refl })

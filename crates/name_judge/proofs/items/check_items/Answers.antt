@@ -1,54 +1,36 @@
-use Rattle.std.proofs.Common.{◌+◌, ◌<◌, ◌∙◌, arith, length, sym, subst, take, drop, List}
+use Rattle.std.proofs.Common.{◌∙◌, ap, sym, List}
 use Rattle.std.proofs.lemmas.Result.{err_from_is_err_and}
-use Rattle.ir_syntax.specs.Tree.{ItemTree}
+use Rattle.ir_syntax.specs.declared.item.Item.{Item}
 use Rattle.ir_syntax.specs.View.{items_view}
-use Rattle.type_judge.proofs.OnOrder.Gathered.{items_more}
+use Rattle.name_rules.specs.Breaks.{known_in}
+use Rattle.name_rules.specs.TypeDemands.{Known}
 use Rattle.type_judge.specs.Gathered.{known_of}
-use Rattle.name_judge.specs.Seen.{AreKept, IsSeen}
-use Rattle.type_judge.proofs.Parts.{leads_start}
-use Rattle.name_judge.proofs.DistinctNames.{distinct_at, none_kept}
-use Rattle.name_judge.proofs.InOrder.{item_next, item_fails, items_end, whole_judged}
+use Rattle.name_judge.proofs.InOrder.{whole_judged}
 use Rattle.name_judge.proofs.items.check_items.Goals as goal
 
-pub items-init : goal.items-init
-items-init c = record { seen = c.nothing_seen-seen.ensures; kept = none_kept _ _ c.new-globals.ensures; leads = leads_start _ }
-
-pub items-preserved : goal.items-preserved
-items-preserved c =
-    let less : c.items.item-index < length c.as_slice-item-items.result.now = omega arith in
-    let known = known_of c.in_ok-known.known in
-    let items = c.as_slice-item-items.result.now in
-    let front = items_view (take c.items.item-index items) in
-    let rest = items_view (drop (c.items.item-index + 1) items) in
-    let distinct = distinct_at known items c.args.items.now c.items.item-index c.item-item.result c.in_ok-known.ensures.items c.as_slice-item-items.ensures less c.item-item.is in
-    let earlier = c.in_ok-earlier.ensures.earlier front rest c.items.invariant.kept (λ e. distinct (sym c.are_distinct-distinct.ensures ∙ e)) in
-    let more = items_more items c.items.item-index c.item-item.result less c.item-item.is in
-    record {
-      seen = subst (λ (before : List ItemTree). IsSeen c.check_item.new.seen before) (sym more) (c.in_ok-check_item.ensures.seen front c.items.invariant.seen);
-      kept = subst (λ (before : List ItemTree). AreKept c.are_distinct-distinct.result c.earlier_global.new.seen before) (sym more) (c.in_ok-earlier.ensures.kept front c.items.invariant.kept);
-      leads = item_next known items c.items.item-index c.item-item.result _ less c.item-item.is (c.in_ok-check_item.ensures.judged front c.items.invariant.seen earlier) c.items.invariant.leads;
-    }
-
-pub returns-in_err-check_item : goal.returns-in_err-check_item
-returns-in_err-check_item c =
-    let less : c.items.item-index < length c.as_slice-item-items.result.now = omega arith in
-    let known = known_of c.in_ok-known.known in
-    let items = c.as_slice-item-items.result.now in
-    let front = items_view (take c.items.item-index items) in
-    let rest = items_view (drop (c.items.item-index + 1) items) in
-    let distinct = distinct_at known items c.args.items.now c.items.item-index c.item-item.result c.in_ok-known.ensures.items c.as_slice-item-items.ensures less c.item-item.is in
-    let earlier = c.in_ok-earlier.ensures.earlier front rest c.items.invariant.kept (λ e. distinct (sym c.are_distinct-distinct.ensures ∙ e)) in
-    let p = err_from_is_err_and c.from_residual-in_err-check_item.result c.from_residual-in_err-check_item.ensures.1 in
-    whole_judged known items c.args.items.now _ c.in_ok-known.ensures.items c.as_slice-item-items.ensures
-    (rw (p.1, p.2) (item_fails known items c.items.item-index c.item-item.result _ _ less c.item-item.is (c.in_err-check_item.ensures.judged front c.items.invariant.seen earlier) c.items.invariant.leads))
-
-pub returns-in_err-earlier : goal.returns-in_err-earlier
-returns-in_err-earlier c =
-    let p = err_from_is_err_and c.from_residual-in_err-earlier.result c.from_residual-in_err-earlier.ensures.1 in
+pub returns-in_err-known : goal.returns-in_err-known
+returns-in_err-known c =
+    let p = err_from_is_err_and c.from_residual.result c.from_residual.ensures.1 in
     rw (p.1, p.2) (record { told = tt })
 
+pub returns-in_err-mentions : goal.returns-in_err-mentions
+returns-in_err-mentions c =
+    let p = err_from_is_err_and c.from_residual-in_err-mentions.result
+    c.from_residual-in_err-mentions.ensures.1 in
+    rw (p.1, p.2) (record { told = tt })
+
+pub check_gathered-requires : goal.check_gathered-requires
+check_gathered-requires c = record {
+  known = c.in_ok-known.ensures.known;
+  mentions = c.in_ok-mentions.ensures.mentions;
+  structs =
+      c.in_ok-mentions.ensures.structs
+      ∙ sym (ap (λ (known : Known). known.structs) c.in_ok-known.ensures.items);
+  items =
+      c.in_ok-known.ensures.items
+      ∙ ap (λ (items : List Item). known_in (items_view items)) (sym c.as_slice.ensures);
+}
+
 pub returns : goal.returns
-returns c =
-    let known = known_of c.in_ok-known.known in
-    let items = c.as_slice-item-items.result.now in
-    whole_judged known items c.args.items.now _ c.in_ok-known.ensures.items c.as_slice-item-items.ensures (items_end known items c.items.item-index _ (omega arith) c.items.invariant.leads)
+returns c = whole_judged (known_of c.in_ok-known.known) c.as_slice.result.now c.args.items.now _
+    c.in_ok-known.ensures.items c.as_slice.ensures c.check_gathered.ensures
