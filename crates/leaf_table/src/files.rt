@@ -62,7 +62,7 @@ impl Objects {
             }
             "write" => self.write(alloc, line),
             "write_pieces" => self.write_pieces(alloc, line),
-            "taken" => Ok(Outcome::Bytes(self.sink.taken().copy(alloc)?)),
+            "taken" => Ok(Outcome::Bytes(Text::from_slice(alloc, self.sink.taken())?)),
             "name" => name(alloc, line),
             "put" | "get" | "read_file" | "write_file" => self.call_files(alloc, line),
             _ => Err(Outcome::Word("no such call")),
