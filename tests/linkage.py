@@ -200,8 +200,9 @@ def two_symbols():
     # And so does one that is defined as the other kind.
     told("two strong: @f in 0 and 1", "define void @f() { ret void } declare void @x()", "define void @f() { ret void } @x = global i32 1")
     told("function and variable: @x in 0 and 1", "@x = external global i32 @v = global i32 1", "define void @x() { ret void } @v = global i32 2")
-    # An appending definition wins over an alias, so that its name stands among the variables; in a part these come before aliases.
-    told("appending and plain: @x in 0 and 1", "@v = private global i32 1 @x = alias i32, ptr @v define void @f() { ret void }", "@x = appending global [1 x i32] [i32 1] define void @f() { ret void }")
+    # Of an alias and an appending definition the first counts, and where that is the alias the name stands among the aliases.
+    told("two strong: @f in 0 and 1", "@v = private global i32 1 @x = alias i32, ptr @v define void @f() { ret void }", "@x = appending global [1 x i32] [i32 1] define void @f() { ret void }")
+    told("appending and plain: @x in 0 and 1", "@x = appending global [1 x i32] [i32 1] define void @f() { ret void }", "@v = private global i32 1 @x = alias i32, ptr @v define void @f() { ret void }")
     told("two strong: @z in 0 and 1", "@v = private global i32 1 @x = alias i32, ptr @v @z = global i32 1", "@x = appending global [1 x i32] [i32 1] @z = global i32 2")
     # Aliases stand in the order of first alias entry.
     told("two strong: @b in 0 and 1", "@t = internal global i32 1 @b = alias i32, ptr @t @a = alias i32, ptr @t", "@t = internal global i32 1 @a = alias i32, ptr @t @b = alias i32, ptr @t")

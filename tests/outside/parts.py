@@ -574,7 +574,7 @@ def inside(shape, index):
 
 # ---- several parts
 
-RANK = {"appending": 5, "external": 4, "private": 4, "internal": 4, "common": 3, "weak": 2, "weak_odr": 2, "linkonce": 1, "linkonce_odr": 1, "extern_weak": 0}
+RANK = {"appending": 4, "external": 4, "private": 4, "internal": 4, "common": 3, "weak": 2, "weak_odr": 2, "linkonce": 1, "linkonce_odr": 1, "extern_weak": 0}
 
 
 def spelled(name):

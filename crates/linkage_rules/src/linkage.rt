@@ -11,13 +11,12 @@ pub(crate) fn is_local(linkage: Linkage) -> bool
     matches!(linkage, Linkage::Private | Linkage::Internal)
 }
 
-/// Which definition of a name is preferred: greatest first external, common, weak, linkonce.
+/// Which definition of a name is preferred: greatest first external and appending, common, weak, linkonce.
 pub(crate) fn rank(linkage: Linkage) -> u8
     ensures { result ≡ linkages.rank linkage }
 {
     match linkage {
-        Linkage::Appending => 5,
-        Linkage::External | Linkage::Private | Linkage::Internal => 4,
+        Linkage::Appending | Linkage::External | Linkage::Private | Linkage::Internal => 4,
         Linkage::Common => 3,
         Linkage::Weak | Linkage::WeakOdr => 2,
         Linkage::Linkonce | Linkage::LinkonceOdr => 1,
