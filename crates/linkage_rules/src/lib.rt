@@ -16,6 +16,7 @@
 //! let bindings = resolve_symbols(alloc, parts)?;
 //! let symbol = bindings.symbols().at(0); // Symbol::Shared(name): `f`
 //! bindings.home(symbol) // Some(EntryId { part: 1, kind: SymbolKind::Function, number: 0 })
+//! bindings.bind(alloc, parts, 0, &name)? // of `f` Some(Bound::Definition(1, GlobalId::Function(id)))
 //! ```
 #![tactic(auto)]
 

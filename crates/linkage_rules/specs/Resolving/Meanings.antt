@@ -1,4 +1,4 @@
--- For `bind_names` and `Meanings::bind`: what is told of the names of some parts.
+-- For `bind_names`, `Meanings::bind` and `Bindings::bind`: what is told of the names of some parts.
 use Rattle.std.specs.Prelude.{◌≡◌, ℕ, Bool, length, List, Option, Some, is_some, option_and_then, slice_get, bytes_eq, ◌==◌, IfSome, if◌then◌else◌}
 use Rattle.std.specs.List.{list_any}
 use Rattle.std.specs.Map.{lookup}
@@ -29,6 +29,10 @@ bound_view parts (told.Appended symbol) = Some (Appended symbol)
 bound_view parts (told.Host name) = Some (Host name)
 bound_view parts told.Null = Some Null
 bound_view parts told.Unresolved = Some Unresolved
+
+-- what is told is what a name means in a part
+abbrev pub IsMeant : List Module → ℕ → Bytes → the_bound.Bound → Type 0
+IsMeant parts part name bound = bound_view parts bound ≡ Some (bind parts part name)
 
 -- whether a part has an entry of that name
 abbrev pub has_name : List Module → ℕ → Bytes → Bool

@@ -1,9 +1,9 @@
 //! The names of all parts, with what they mean.
-ghost use Rattle.std.specs.Prelude.{◌≡◌, ◌<◌, length, map, IfOk};
+ghost use Rattle.std.specs.Prelude.{◌≡◌, ◌<◌, length, map, is_some, IfOk, IfSome};
 ghost use Rattle.std.specs.Option.{option_copied};
 ghost use Rattle.linkage_rules.specs.Ids.{modules};
 ghost use Rattle.linkage_rules.specs.Resolved.{AreBindings};
-ghost use Rattle.linkage_rules.specs.Resolving.Meanings.{AreAbsent, AreMeanings, AreNames, told_of};
+ghost use Rattle.linkage_rules.specs.Resolving.Meanings.{AreAbsent, AreMeanings, AreNames, IsMeant, has_name, told_of};
 
 use crate::resolving::Bound;
 use crate::resolving::absent::{Absent, absent_among};
@@ -66,6 +66,30 @@ fn names_of(
         names.insert(entry_name.copy(alloc)?, bound)?;
     }
     Ok(names)
+}
+
+impl Bindings {
+    /// What a name means in the part with that number, counted from 0, through aliases. None exactly
+    /// where the part has no entry of the name. It is refused for want of memory alone. It reads all
+    /// names of the part; [`bind_names`] is for many (LangRef, "Linkage Types", "Aliases").
+    pub fn bind(
+        &self,
+        alloc: Global,
+        parts: &[Checked],
+        part: u64,
+        name: &Name,
+    ) -> Result<Option<Bound>, AllocError>
+        requires { AreBindings parts.now self.now }
+        ensures bound { IfOk result (λ b. IfSome b (IsMeant (modules parts.now) part name.now)) }
+        ensures known { IfOk result (λ b. is_some b ≡ has_name (modules parts.now) part name.now) }
+    {
+        if part >= parts.len() as u64 {
+            return Ok(None);
+        }
+        let absent = IndexMap::new(alloc);
+        let mut names = names_of(alloc, parts, self, &absent, part)?;
+        Ok(names.swap_remove(name))
+    }
 }
 
 /// What the names of parts mean whose symbols are resolved: of each name of each part exactly the definition, the
