@@ -1,8 +1,33 @@
 -- The pieces of a text, one after the other.
-use Rattle.std.proofs.Common.{◌≡◌, ℕ, suc, ◌+◌, ◌<◌, ◌≤◌, ◌==◌, Bool, true, false, List, [], ◌∷◌, length, take, drop, ◌||◌, refl, sym, ap, ◌∙◌, cond, arith}
+use Rattle.std.proofs.Common.{◌≡◌, ℕ, zero, suc, ◌+◌, ◌<◌, ◌≤◌, ◌==◌, Bool, true, false, List, [], ◌∷◌, length, take, drop, ◌||◌, refl, sym, ap, ◌∙◌, cond, arith}
 use Rattle.std.specs.List.{list_any}
 use Rattle.module_arena.specs.LayoutText.{pieces, on_first, first_piece, is_foreign_component}
+use Rattle.std.specs.Prelude.{slice_index}
 use Rattle.path_verify.specs.Pieces.{piece_length}
+
+-- the first separator ends the first piece
+pub length_found : (separator : ℕ) (text : List ℕ) (k : ℕ) → k < length text → (slice_index text k == separator) ≡ true
+    → ((j : ℕ) → j < k → (slice_index text j == separator) ≡ true → ⊥) → piece_length separator text ≡ k
+length_found separator [] k lt at before = absurd (omega (arith, lt))
+length_found separator (b ∷ bs) zero lt at before = ap (λ s. cond s 0 (suc (piece_length separator bs))) at
+length_found separator (b ∷ bs) (suc k) lt at before =
+    ap (λ s. cond s 0 (suc (piece_length separator bs))) (plain (b == separator) refl)
+    ∙ ap suc (length_found separator bs k (omega (arith, lt)) at (λ j l. before (suc j) (omega (arith, l))))
+  where
+    plain : (s : Bool) → (b == separator) ≡ s → (b == separator) ≡ false
+    plain false e = e
+    plain true e = absurd (before zero (omega arith) e)
+
+-- without a separator the text is one piece
+pub length_whole : (separator : ℕ) (text : List ℕ) → ((j : ℕ) → j < length text → (slice_index text j == separator) ≡ true → ⊥) → piece_length separator text ≡ length text
+length_whole separator [] none = refl
+length_whole separator (b ∷ bs) none =
+    ap (λ s. cond s 0 (suc (piece_length separator bs))) (plain (b == separator) refl)
+    ∙ ap suc (length_whole separator bs (λ j l. none (suc j) (omega (arith, l))))
+  where
+    plain : (s : Bool) → (b == separator) ≡ s → (b == separator) ≡ false
+    plain false e = e
+    plain true e = absurd (none zero (omega arith) e)
 
 pub piece_within : (separator : ℕ) (text : List ℕ) → piece_length separator text ≤ length text
 piece_within separator [] = omega arith

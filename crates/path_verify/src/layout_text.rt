@@ -4,16 +4,16 @@ ghost use Rattle.std.specs.List.{list_any};
 ghost use Rattle.module_arena.specs.LayoutText.{pieces, first_piece, is_foreign_component};
 ghost use Rattle.path_verify.specs.Pieces.{piece_length};
 
+use bstr::ByteSlice;
+
 /// How long the text is up to the next separator, or to its end.
 fn piece_length(text: &[u8], separator: u8) -> usize
     ensures { result ≡ piece_length separator text.now }
 {
-    for (index, byte) in text.iter().enumerate() {
-        if *byte == separator {
-            return index;
-        }
+    match text.find_byte(separator) {
+        Some(place) => place,
+        None => text.len(),
     }
-    text.len()
 }
 
 /// The text up to the next separator, or to its end.
