@@ -29,6 +29,7 @@ mod running;
 mod tool_run;
 mod work;
 
+pub use command_line::{Command, WordsFault, read_words};
 pub use laws::{accepted_is_not_refused, inputs_are_readable};
 pub use tool_output::ends::{Ended, Report};
 pub use tool_run::{end_without_words, run_tool};
