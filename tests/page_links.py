@@ -10,7 +10,7 @@ A link leads to a file of the checkout, and what follows its `#` is a heading of
 GitHub's rule. A path in a code block or between backquotes is there: from the top of the checkout,
 from `crates/`, or, where it begins with `src/`, `specs/` or `proofs/`, from a crate that the same
 paragraph names. In specs/ and proofs/ the ending `.antt` may be left out. `*` and words in
-capitals, as NAME, mean any name. A file name alone, as `machine.rt`, is that of a file in `crates/`,
+capitals, as NAME, mean any name. A file name alone, as `machine.rt`, is of a file in `crates/`,
 `tests/`, `bench/` or `man/`. Each crate has one row in docs/architecture.md, whose definitions are
 there.
 """
