@@ -11,8 +11,8 @@ GitHub's rule. A path in a code block or between backquotes is there: from the t
 from `crates/`, or, where it begins with `src/`, `specs/` or `proofs/`, from a crate that the same
 paragraph names. In specs/ and proofs/ the ending `.antt` may be left out. `*` and words in
 capitals, as NAME, mean any name. A file name alone, as `machine.rt`, is of a file in `crates/`,
-`tests/`, `bench/` or `man/`. Each crate has one row in docs/architecture.md, whose definitions are
-there.
+`tests/`, `bench/` or `man/`. Each crate has one row in docs/architecture.md, which names its
+public modules, and whose definitions are there.
 """
 import functools
 import pathlib
@@ -134,12 +134,17 @@ def paragraphs(text):
 
 
 def row_faults(text):
-    """What is wrong of the rows of crates: a crate without one, a definition that is not there."""
+    """What is wrong of the rows of crates: a crate without one, a public module that its row does
+    not name, a definition that is not there."""
     rows = re.findall(r"^\| `(\w+)` \|(?:.*\|)?(.*)\|$", text, re.M)
     rows = [(crate, cell) for crate, cell in rows if crate in crates()]
     for crate in sorted(crates() - {crate for crate, _ in rows}):
         yield f"no row of {crate}"
     for crate, cell in rows:
+        root = ROOT / "crates" / crate / "src" / "lib.rt"
+        for module in re.findall(r"^pub mod (\w+)", root.read_text() if root.exists() else "", re.M):
+            if not re.search(rf"^\| `{crate}` \|.*`{module}`", text, re.M):
+                yield f"no module {module} of {crate}"
         named = [crate, *re.findall(r"of `(\w+)`", cell)]
         for name in re.findall(r"`([A-Z]\w*(?:/\w+)*)`", cell):
             if not any(is_there(f"crates/{it}/specs/{name}") for it in named):
