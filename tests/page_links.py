@@ -142,7 +142,8 @@ def row_faults(text):
         yield f"no row of {crate}"
     for crate, cell in rows:
         root = ROOT / "crates" / crate / "src" / "lib.rt"
-        for module in re.findall(r"^pub mod (\w+)", root.read_text() if root.exists() else "", re.M):
+        code = root.read_text() if root.exists() else ""
+        for module in re.findall(r"^pub mod (\w+)", code, re.M):
             if not re.search(rf"^\| `{crate}` \|.*`{module}`", text, re.M):
                 yield f"no module {module} of {crate}"
         named = [crate, *re.findall(r"of `(\w+)`", cell)]
