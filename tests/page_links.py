@@ -133,6 +133,13 @@ def paragraphs(text):
         begin = match.end()
 
 
+def has_definition(crate, name):
+    """Whether the specs of a crate have a file of that name, or a file that defines it."""
+    files = ROOT.glob(f"crates/{crate}/specs/**/*.antt")
+    return is_there(f"crates/{crate}/specs/{name}") or any(
+        re.search(rf"\bpub {name}\b", path.read_text()) for path in files)
+
+
 def row_faults(text):
     """What is wrong of the rows of crates: a crate without one, a public module that its row does
     not name, a definition that is not there."""
@@ -148,7 +155,7 @@ def row_faults(text):
                 yield f"no module {module} of {crate}"
         named = [crate, *re.findall(r"of `(\w+)`", cell)]
         for name in re.findall(r"`([A-Z]\w*(?:/\w+)*)`", cell):
-            if not any(is_there(f"crates/{it}/specs/{name}") for it in named):
+            if not any(has_definition(it, name) for it in named):
                 yield f"no {name} in the specs of {' or '.join(named)}"
 
 
