@@ -29,7 +29,7 @@ import tempfile
 
 ROOT = pathlib.Path(__file__).resolve().parent.parent
 # What a page names and a test of it does not run.
-NOT_RUN = ("git clone", ".ci/run", "tests/quick", "rt ", "man ", "apt", "sudo ")
+NOT_RUN = ("git clone", ".ci/run", "tests/quick", "tests/real/", "rt ", "man ", "apt", "sudo ")
 # What begins a further command within a line.
 SEPARATORS = {"|", "||", "&&", ";", ";;", "&", "(", ")", "|&"}
 

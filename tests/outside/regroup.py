@@ -2,7 +2,7 @@
 """Links parts in every grouping that keeps their order, and compares each with linking all of them
 at once; cuts modules in two, links the halves, and compares that with the module.
 
-    tests/outside/regroup.py [--tool PROGRAM] [--jobs N] again       the cases that the gate runs
+    tests/outside/regroup.py [--tool PROGRAM] [--jobs N] again       2,000 fixed cases
     tests/outside/regroup.py [--tool PROGRAM] [--jobs N] SEED COUNT  COUNT cases of that seed
     tests/outside/regroup.py [--tool PROGRAM] case SEED NUMBER       one of them, kept as files
     tests/outside/regroup.py [--tool PROGRAM] parts FILE FILE ..     these parts in all groupings
