@@ -1,9 +1,18 @@
 -- Says how the code reads: how far a text is told, of which a front was written.
-use Rattle.std.specs.Prelude.{◌≡◌, ℕ, ◌≤◌, List, ◌++◌, length, take, Option, Result, Ok, Err}
+use Rattle.std.specs.Prelude.{◌≡◌, ℕ, ◌≤◌, Bool, List, ◌++◌, length, take, Option, Result, Ok, Err}
 use Rattle.ir_base.specs.Outside.{Added}
+use Rattle.bit_tree.specs.Stream.{StreamTree, Stream}
+use Rattle.bit_tree.specs.Pieces.{Piece, flat}
 use Rattle.bit_dump.specs.declared.fault.DumpFault.{DumpFault}
 use Rattle.bit_dump.specs.declared.fault.DumpFault.TheVariants.{Bit, WriteFault, Memory}
-use Rattle.bit_dump.specs.Outline.{Outline, front}
+use Rattle.bit_dump.specs.Outline.{Outline, front, nothing_told}
+
+-- nothing is told of the stream of a tree, and all its pieces are left
+pub record IsUntold (bytes : List ℕ) (whole : Bool) (left : List Piece) (o : Outline) : Type 0 where
+  pub tree : StreamTree
+  pub stream : Stream bytes tree
+  pub left_is : left ≡ flat tree
+  pub told_is : o ≡ nothing_told whole
 
 -- so much is told: a front of its text was added, and the rest is gathered
 pub record Tells (before now : Option (List ℕ)) (all o : Outline) : Type 0 where

@@ -1,10 +1,10 @@
 //! Telling a whole stream.
-ghost use Rattle.std.specs.Prelude.{◌≤◌, length};
+ghost use Rattle.std.specs.Prelude.{◌≡◌, ◌≤◌, ℕ, Bool, List, false, length};
 ghost use Rattle.bit_stream.specs.declared.reader.TheConstants.{LARGEST_STREAM};
 ghost use Rattle.bit_tree.specs.Read.{IsStream};
 ghost use Rattle.bit_dump.specs.Dumped.{Dumped, Counted};
 ghost use Rattle.bit_dump.specs.Outline.{summed};
-ghost use Rattle.bit_dump.specs.Telling.{Finished};
+ghost use Rattle.bit_dump.specs.Telling.{Finished, IsUntold};
 
 use crate::DumpFault;
 use crate::outline::Outline;
@@ -30,6 +30,29 @@ pub fn dump<S: Sink>(
     tell_judged(alloc, bytes, whole, sink)
 }
 
+/// Writes the text of a stream of which nothing is told yet. What tells it is borrowed, so that no
+/// exit here frees it.
+fn tell_all<S: Sink>(
+    alloc: Global,
+    walker: &mut Walker,
+    outline: &mut Outline,
+    sink: &mut S,
+) -> Result<(), DumpFault>
+    requires { walker.old.spent ≡ false }
+    ensures told { (bytes : List ℕ) (whole : Bool)
+        → IsUntold bytes whole walker.old.left outline.old
+        → Dumped bytes whole (S.taken sink.old) (S.taken sink.new) result }
+    ensures counted { Counted (S.faults sink.old) (S.faults sink.new) result }
+{
+    'telling: loop {
+        let next = walker.next()?;
+        match next {
+            Some(event) => tell(alloc, event, walker, outline, sink)?,
+            None => return finish(outline, sink),
+        }
+    }
+}
+
 /// The same of a stream that is a tree.
 fn tell_judged<S: Sink>(
     alloc: Global,
@@ -44,13 +67,7 @@ fn tell_judged<S: Sink>(
 {
     let mut walker = Walker::new(alloc, bytes);
     let mut outline = Outline::new(alloc, whole);
-    'telling: loop {
-        let next = walker.next()?;
-        match next {
-            Some(event) => tell(alloc, event, &mut walker, &mut outline, sink)?,
-            None => return finish(&mut outline, sink),
-        }
-    }
+    tell_all(alloc, &mut walker, &mut outline, sink)
 }
 
 /// Writes the summary behind what is not written yet.

@@ -207,11 +207,12 @@ fn stand_in(alloc: Global, number: u32) -> Result<Name, AllocError>
     }
 }
 
-/// An arena with stand-ins for the names of so many structs, and nothing else.
-fn stand_ins(alloc: Global, count: u32) -> Result<Arena, AllocError>
-    ensures { IfOk result (λ arena. HasStructs count arena) }
+/// Gives an empty arena stand-ins for the names of so many structs. It is borrowed, so that no exit
+/// here frees it.
+fn add_stand_ins(arena: &mut Arena, alloc: Global, count: u32) -> Result<(), AllocError>
+    requires { arena.old ≡ no_lists }
+    ensures { OnOk result (HasStructs count arena.new) }
 {
-    let mut arena = Arena::new(alloc);
     'structs: for number in 0..count {
         let name = stand_in(alloc, number)?;
         match arena.name_struct(name) {
@@ -219,6 +220,15 @@ fn stand_ins(alloc: Global, count: u32) -> Result<Arena, AllocError>
             Err(_) => return Err(AllocError),
         }
     }
+    Ok(())
+}
+
+/// An arena with stand-ins for the names of so many structs, and nothing else.
+fn stand_ins(alloc: Global, count: u32) -> Result<Arena, AllocError>
+    ensures { IfOk result (λ arena. HasStructs count arena) }
+{
+    let mut arena = Arena::new(alloc);
+    add_stand_ins(&mut arena, alloc, count)?;
     Ok(arena)
 }
 

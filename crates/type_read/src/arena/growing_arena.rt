@@ -6,7 +6,7 @@ ghost use Rattle.module_arena.specs.Changes.{constant_in, with_constant, with_ta
 ghost use Rattle.module_arena.specs.Known.{KnowsConst, counts};
 ghost use Rattle.module_arena.specs.View.{module_of};
 ghost use Rattle.type_read.specs.declared.arena.recent.TheConstants.{SLOT_COUNT};
-ghost use Rattle.type_read.specs.Arena.Growing.{AddsConstant, IsConstant, IsOver, IsType};
+ghost use Rattle.type_read.specs.Arena.Growing.{AddsConstant, IsConstant, IsGrowing, IsOver, IsType};
 
 use crate::arena::recent::Recent;
 use module_arena::{Arena, Const, ConstId};
@@ -47,6 +47,45 @@ fn add_type(arena: &mut Arena, ty: IrType) -> Result<TypeId, AllocError>
         Ok(id) => Ok(id),
         Err(_) => Err(AllocError),
     }
+}
+
+/// What an arena has beside the types that are listed.
+#[derive(Drop)]
+struct Unlisted {
+    /// How many types are listed.
+    types: u64,
+    pointer: TypeId,
+    bit: TypeId,
+    recent: Recent,
+}
+
+/// Adds the types of addresses and of conditions to an arena, all of whose types are listed. It is
+/// borrowed, so that no exit here frees it.
+fn add_unlisted(arena: &mut Arena, alloc: Global) -> Result<Unlisted, AllocError>
+    ensures is { IfOk result (λ added. IsOver arena.old (record {
+      arena = arena.new;
+      types = added.types;
+      pointer = added.pointer;
+      bit = added.bit;
+    })) }
+    ensures growing { IfOk result (λ added. IsGrowing (record {
+      arena = arena.new;
+      types = added.types;
+      pointer = added.pointer;
+      bit = added.bit;
+    })) }
+    ensures module { OnOk result (module_of arena.new ≡ module_of arena.old) }
+{
+    let types = arena.types().type_count();
+    let pointer = add_type(arena, IrType::Ptr)?;
+    let bit = add_type(arena, IrType::Int(1))?;
+    let recent = Recent::new(alloc)?;
+    Ok(Unlisted {
+        types,
+        pointer,
+        bit,
+        recent,
+    })
 }
 
 /// Adds a constant whose parts are in the arena.
@@ -91,10 +130,12 @@ impl GrowingArena {
         ensures module { IfOk result (λ growing. module_of growing.arena ≡ module_of listed) }
     {
         let mut arena = listed;
-        let types = arena.types().type_count();
-        let pointer = add_type(&mut arena, IrType::Ptr)?;
-        let bit = add_type(&mut arena, IrType::Int(1))?;
-        let recent = Recent::new(alloc)?;
+        let Unlisted {
+            types,
+            pointer,
+            bit,
+            recent,
+        } = add_unlisted(&mut arena, alloc)?;
         Ok(GrowingArena {
             arena,
             types,

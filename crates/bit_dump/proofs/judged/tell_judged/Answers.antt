@@ -1,56 +1,14 @@
-use Rattle.std.proofs.Common.{◌≡◌, ℕ, suc, length, inr, refl, ap, subst, ◌∙◌, arith}
-use Rattle.bit_dump.specs.Walk.Walker.{piece_of}
-use Rattle.std.proofs.lemmas.Result.{err_from_is_err_and}
-use Rattle.bit_dump.specs.Dumped.{Counted}
-use Rattle.bit_dump.proofs.Telling.{begins, goes_on, wants_more, halts, closes}
 use Rattle.bit_dump.proofs.judged.tell_judged.Goals as goal
 
-pub telling-init : goal.telling-init
-telling-init g c =
-    let tree = c.requires.judged.tree in
-    let stream = c.requires.judged.stream in
-    record {
-      told = begins c.args.bytes.now c.args.whole (g.S.Sink.taken c.args.sink.now) c.new-walker.result.left c.new-outline.result tree stream (c.new-walker.ensures.whole tree stream) c.new-outline.ensures;
-      faults = refl;
-      unspent = c.new-walker.ensures.unspent;
-    }
+pub tell_all-requires : goal.tell_all-requires
+tell_all-requires g c = c.new-walker.ensures.unspent
 
-pub returns-in_err-next : goal.returns-in_err-next
-returns-in_err-next g c =
-    let p = err_from_is_err_and c.from_residual.result c.from_residual.ensures.1 in
-    record {
-      told = rw (p.1, p.2) (inr (wants_more c.args.bytes.now c.args.whole (g.S.Sink.taken c.args.sink.now) (g.S.Sink.taken c.telling.sink) c.telling.walker.left c.telling.outline c.telling.invariant.told));
-      counted = rw (p.1, p.2) c.telling.invariant.faults;
-    }
-
-pub returns-in-None : goal.returns-in-None
-returns-in-None g c =
-    let gave = rw (c.telling.invariant.unspent, c.in-None.is) at c.in_ok-next.ensures.walks in
-    record {
-      told = closes c.args.bytes.now c.args.whole (g.S.Sink.taken c.args.sink.now) (g.S.Sink.taken c.telling.sink) (g.S.Sink.taken c.finish.new.sink) c.telling.outline c.telling.walker.left c.finish.result c.telling.invariant.told gave.1 c.finish.ensures.told;
-      counted = subst (λ (n : ℕ). Counted n (g.S.Sink.faults c.finish.new.sink) c.finish.result) c.telling.invariant.faults c.finish.ensures.counted;
-    }
-
-pub returns-in_err-tell-in-Some-clause-told : goal.returns-in_err-tell-in-Some-clause-told
-returns-in_err-tell-in-Some-clause-told g c =
-    let p = err_from_is_err_and c.from_residual-in_err-tell-in-Some.result c.from_residual-in_err-tell-in-Some.ensures.1 in
-    let gave = rw (c.telling.invariant.unspent, c.in-Some.is) at c.in_ok-next.ensures.walks in
-    let so_far = c.telling.invariant.told in
-    rw (p.1, p.2) (halts c.args.bytes.now c.args.whole (g.S.Sink.taken c.args.sink.now) (g.S.Sink.taken c.telling.sink) (g.S.Sink.taken c.tell.new.sink) c.telling.walker.left c.next.new.self.left (piece_of c.in-Some.event c.next.new.self) c.telling.outline c.tell.new.outline c.in_err-tell-in-Some.field-0.0 so_far gave.1 (c.in_err-tell-in-Some.ensures.told (g.S.Sink.taken c.args.sink.now) so_far.all so_far.tells))
-
-pub telling-preserved : goal.telling-preserved
-telling-preserved g c =
-    let gave = rw (c.telling.invariant.unspent, c.in-Some.is) at c.in_ok-next.ensures.walks in
-    let so_far = c.telling.invariant.told in
-    record {
-      told = rw c.in_ok-tell-in-Some.ensures.left (goes_on c.args.bytes.now c.args.whole (g.S.Sink.taken c.args.sink.now) (g.S.Sink.taken c.telling.sink) (g.S.Sink.taken c.tell.new.sink) c.telling.walker.left c.next.new.self.left (piece_of c.in-Some.event c.next.new.self) c.telling.outline c.tell.new.outline so_far gave.1 (c.in_ok-tell-in-Some.ensures.told (g.S.Sink.taken c.args.sink.now) so_far.all so_far.tells));
-      faults = c.in_ok-tell-in-Some.ensures.counted ∙ c.telling.invariant.faults;
-      unspent = c.in_ok-tell-in-Some.ensures.spent ∙ gave.0;
-    }
-
-pub telling-smaller : goal.telling-smaller
-telling-smaller g c =
-    let gave = rw (c.telling.invariant.unspent, c.in-Some.is) at c.in_ok-next.ensures.walks in
-    let before : length c.telling.walker.left ≡ suc (length c.next.new.self.left) = ap length gave.1 in
-    let now : length c.tell.new.walker.left ≡ length c.next.new.self.left = ap length c.in_ok-tell-in-Some.ensures.left in
-    omega arith
+pub returns-clause-told : goal.returns-clause-told
+returns-clause-told g c =
+    let of = c.requires.judged in
+    c.tell_all.ensures.told c.args.bytes.now c.args.whole (record {
+      tree = of.tree;
+      stream = of.stream;
+      left_is = c.new-walker.ensures.whole of.tree of.stream;
+      told_is = c.new-outline.ensures;
+    })

@@ -1,10 +1,10 @@
 use Rattle.std.proofs.Common.{◌≡◌, sym, subst, arith}
 use Rattle.type_read.specs.Listed.{HasStructs}
 use Rattle.type_read.proofs.StandIns.{no_structs, one_struct}
-use Rattle.type_read.proofs.structs.stand_ins.Goals as goal
+use Rattle.type_read.proofs.structs.add_stand_ins.Goals as goal
 
 pub structs-init : goal.structs-init
-structs-init c = subst (HasStructs 0) (sym c.new-arena.ensures) no_structs
+structs-init c = subst (HasStructs 0) (sym c.requires) no_structs
 
 pub name_struct-requires : goal.name_struct-requires
 name_struct-requires c = let many = c.structs.invariant.many in omega (arith, many)
