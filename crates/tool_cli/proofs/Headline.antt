@@ -54,7 +54,7 @@ use Rattle.tool_cli.proofs.Spelled.{spells_once}
 -- ---- parts
 
 -- what follows where two inputs are both bitcode, and where they are both texts
-two_by : (bitcode : Bool) (P Q R S T : Type 0) → (P → R → T) → (Q → S → T) → MatchBool bitcode P Q → MatchBool bitcode R S → T
+pub two_by : (bitcode : Bool) (P Q R S T : Type 0) → (P → R → T) → (Q → S → T) → MatchBool bitcode P Q → MatchBool bitcode R S → T
 two_by true P Q R S T of_bitcode of_text p r = of_bitcode p r
 two_by false P Q R S T of_bitcode of_text q s = of_text q s
 
@@ -77,7 +77,7 @@ unrefused_text name text m ended sized valid reads (inr (inr bad)) =
     unjudged m bad.fault sized valid (subst (λ (n : Module). IsVerdict n bad.fault) same bad.refused)
 
 -- bytes that spell a module are not refused as bitcode
-spells_something : (bytes : List ℕ) (m : Module) (fault : BitcodeFault) → Spells bytes m → IsBitcodeFault bytes fault → ⊥
+pub spells_something : (bytes : List ℕ) (m : Module) (fault : BitcodeFault) → Spells bytes m → IsBitcodeFault bytes fault → ⊥
 spells_something bytes m (bitcode_faults.Bit bit) spells refused = none≢some (sym (tree_no_fault bytes spells.tree spells.is_tree) ∙ refused)
 spells_something bytes m bitcode_faults.Memory spells refused = absurd refused
 spells_something bytes m fault spells refused =
@@ -96,7 +96,7 @@ unrefused name bytes m ended is refused =
     two_by (is_bitcode bytes) (Spells bytes m) (Reads bytes m) (IsBitcodeRefused name bytes ended) (IsTextRefused name bytes ended) ⊥
     (λ spells bad. unrefused_bitcode name bytes m ended is.sized is.valid spells bad) (λ reads bad. unrefused_text name bytes m ended is.sized is.valid reads bad) is.stands refused
 
-none_refused : (names texts : List (List ℕ)) (parts : List Module) (ended : Ended) → AreParts texts parts → IsFirstRefusal names texts ended → ⊥
+pub none_refused : (names texts : List (List ℕ)) (parts : List Module) (ended : Ended) → AreParts texts parts → IsFirstRefusal names texts ended → ⊥
 none_refused [] [] parts ended are refused = absurd refused
 none_refused [] (text ∷ texts) parts ended are refused = absurd refused
 none_refused (name ∷ names) [] parts ended are refused = absurd refused
@@ -110,7 +110,7 @@ stands_once once bytes m n one other =
     two_by (is_bitcode bytes) (Spells bytes m) (Reads bytes m) (Spells bytes n) (Reads bytes n) (m ≡ n) (λ r s. spells_once bytes m n r s) (λ r s. once bytes m n r s) one other
 
 -- inputs stand for their parts alone
-same_parts : ReadsOnce → (texts : List (List ℕ)) (ps qs : List Module) → AreParts texts ps → AreParts texts qs → ps ≡ qs
+pub same_parts : ReadsOnce → (texts : List (List ℕ)) (ps qs : List Module) → AreParts texts ps → AreParts texts qs → ps ≡ qs
 same_parts once [] [] [] are others = refl
 same_parts once [] [] (q ∷ qs) are others = absurd others
 same_parts once [] (p ∷ ps) qs are others = absurd are

@@ -18,3 +18,6 @@ pub mod Spelled
 pub mod Begins
 pub mod Headline
 pub mod Ran
+pub mod OneEnd
+pub mod Reported
+pub mod Unreported

@@ -8,6 +8,7 @@ use Rattle.command_line.specs.Commands.{IsReadAs}
 use Rattle.command_line.specs.Faults.{IsFirstFault}
 use Rattle.tool_output.specs.declared.ends.ended.Ended.{Ended}
 use Rattle.tool_output.specs.declared.ends.ended.Ended.TheVariants.{Usage, Memory}
+use Rattle.tool_output.specs.declared.ends.ended.Ended.TheVariants as ends
 use Rattle.tool_cli.specs.Analyzed.{analyzes, IsBeforeWork}
 use Rattle.tool_cli.specs.Causes.{IsEmptied, IsStopped}
 use Rattle.tool_cli.specs.Inputs.{inputs_named, inputs_of, has_stdin, listens, runs, TellsAll, TellsRun}
@@ -15,7 +16,7 @@ use Rattle.tool_cli.specs.Order.{has_file, IsInTurn, KeepsOrder, KeepsTurn}
 use Rattle.tool_cli.specs.Output.{output_named, IsShown, LeavesNamed, LeavesStandard}
 use Rattle.tool_cli.specs.Reads.{HasCauses, LeavesBehind, LeavesUnread}
 use Rattle.tool_cli.specs.Running.{IsPlayed, IsUnbegun}
-use Rattle.tool_cli.specs.Told.{IsAfterReading, IsTold}
+use Rattle.tool_cli.specs.Told.{HasResult, IsAfterReading, IsTold}
 use Rattle.tool_cli.specs.World.{World, outputs_of, outside_of}
 
 -- nothing was read or written
@@ -31,6 +32,16 @@ pub record EndsAs {I O F : Type 0} (words : List (List ℕ)) (before now : World
   -- where the outside tells all that the run depends on, its end is the one that words, files and standard input have, or it stopped
   pub told : (held : Named) (stdin : List ℕ) → TellsRun words before.contents before.left held stdin
       → IsTold words held stdin ended ⊎ IsStopped words before now ended
+  -- and there is no other (`one_end`): an end that they have is the answer, or the run stopped
+  pub complete : (held : Named) (stdin : List ℕ)
+      → TellsRun words before.contents before.left held stdin
+      → (end : Ended) → IsTold words held stdin end
+      → (ended ≡ end) ⊎ IsStopped words before now ended
+  -- so where the command has a result, the answer is `Ok`, or the run stopped
+  pub succeeds : (held : Named) (stdin : List ℕ)
+      → TellsRun words before.contents before.left held stdin
+      → HasResult words held stdin
+      → (ended ≡ ends.Ok) ⊎ IsStopped words before now ended
   -- what could not be read or written has its cause, and what failed is told
   pub causes : HasCauses words before now ended
   -- what is read and written: nothing where the words have a fault

@@ -21,7 +21,7 @@ use Rattle.tool_output.specs.declared.ends.ended.Ended.TheVariants as ends
 use Rattle.tool_cli.specs.Inputs.{inputs_of, texts_read}
 use Rattle.tool_cli.specs.Analyzed.{IsAnalysis}
 use Rattle.tool_cli.specs.Judged.{IsBitcodeOf, IsBitcodeRefused, IsTextRefused, IsPartRefused, IsFirstRefusal, AreAccepted}
-use Rattle.tool_cli.specs.Made.{AreParts, AssemblesTo, IsPart, selection_of}
+use Rattle.tool_cli.specs.Made.{AreParts, AssemblesTo, IsPart, IsResult, selection_of}
 use Rattle.tool_cli.specs.Running.{end_of}
 
 -- The end of `lli` over the input of this name: it is refused; or that of the program of the module that it stands for, which has these words, may make so
@@ -102,6 +102,15 @@ abbrev pub IsTold : List (List ℕ) → Named → List ℕ → Ended → Type 0
 IsTold words files stdin ended =
     ((kind : UsageKind) × ((k : ℕ) × IsFirstFault words kind k × (ended ≡ Usage kind k)))
     ⊎ ((command : Command) × IsReadAs words command × IsOutcome command stdin (texts_read files stdin 0 (inputs_of command)) ended)
+
+-- the words are a command that runs no program, and these bytes are its result over what its inputs hold
+pub record HasResult (words : List (List ℕ)) (files : Named) (stdin : List ℕ) : Type 0 where
+  pub command : Command
+  pub read : IsReadAs words command
+  pub texts : List (List ℕ)
+  pub given : texts_read files stdin 0 (inputs_of command) ≡ Ok texts
+  pub bytes : List ℕ
+  pub is : IsResult command texts bytes
 
 -- an end that the work of a tool may have that runs no program
 abbrev pub IsOfWork : Ended → Type 0

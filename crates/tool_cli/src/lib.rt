@@ -3,7 +3,7 @@
 //! It stands on every layer below. Its promise is the contract of `run_tool`, the call that `main` makes over the
 //! process's own streams: what is answered, what is read and what is written, for any source and sink.
 //! Definitions: `specs/Headline` for what linking promises, `specs/Ends` for all else that a run does, over what `specs/World` names: `specs/Told` for the
-//! meaning of an answer, `specs/Made` and `specs/Output` for what is written, `specs/Running` for programs that are run; `specs/Laws` for inputs,
+//! meaning of an answer, `specs/Made` and `specs/Output` for what is written, `specs/Running` for programs that are run; `specs/Laws` for inputs and ends,
 //! `specs/Ended` of `tool_output::ends` for the line and the status.
 //!
 //! ```
@@ -30,6 +30,6 @@ mod tool_run;
 mod work;
 
 pub use command_line::{Command, WordsFault, read_words};
-pub use laws::{accepted_is_not_refused, inputs_are_readable};
+pub use laws::{accepted_is_not_refused, inputs_are_readable, one_end};
 pub use tool_output::ends::{Ended, Report};
 pub use tool_run::{end_without_words, run_tool};

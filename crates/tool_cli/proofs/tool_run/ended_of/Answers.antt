@@ -4,11 +4,11 @@ use Rattle.ir_base.specs.Outside.{Rose}
 use Rattle.command_line.specs.declared.command.Command.{Command}
 use Rattle.command_line.specs.declared.command.OutputName.{OutputName}
 use Rattle.command_line.specs.declared.command.WordsFault.{WordsFault}
-use Rattle.tool_output.specs.declared.ends.ended.Ended.TheVariants.{Memory}
+use Rattle.tool_output.specs.declared.ends.ended.Ended.TheVariants.{Memory, Usage}
 use Rattle.tool_output.specs.Outputs.{outputs}
 use Rattle.tool_cli.specs.Analyzed.{IsBeforeWork}
 use Rattle.tool_cli.specs.Causes.{IsEmptied, Stopped}
-use Rattle.tool_cli.specs.Inputs.{has_stdin, hears, input_read, inputs_of, inputs_named, listens, texts_read}
+use Rattle.tool_cli.specs.Inputs.{has_stdin, hears, input_read, inputs_of, inputs_named, listens, texts_read, TellsRun}
 use Rattle.tool_cli.specs.Order.{IsRefusedInFront}
 use Rattle.tool_cli.specs.Output.{output_of, IsFileUnwritten, IsUnwritten, IsWritten}
 use Rattle.tool_cli.specs.Reads.{LosesInput}
@@ -19,6 +19,8 @@ use Rattle.tool_cli.proofs.Works.{nothing_shown, early_refusal, not_before_work,
 use Rattle.tool_cli.proofs.Delivered.{leaves_after, leaves_none, leaves_read}
 use Rattle.tool_cli.proofs.Outcomes.{inputs_are, analyzes_is, output_is, same_command, shown_ok, told_ok, told_err, cause_of_unread, cause_of_large, fault_told, never_after, never_unwritten, never_usage}
 use Rattle.tool_cli.proofs.Commands.{end_over, heard, hears_no_stdin, input_cause, listens_is, loses_after, loses_none, loses_read, nothing_played, played_err, played_ok, runs_is, same_outside, stdin_unheard, unread_cause, unread_told}
+use Rattle.tool_cli.proofs.OneEnd.{complete_by, one_end}
+use Rattle.tool_cli.proofs.Reported.{succeeds_by}
 use Rattle.tool_cli.proofs.Steps.{words_fit}
 use Rattle.tool_cli.proofs.Order.{work_keeps}
 use Rattle.tool_cli.proofs.tool_run.ended_of.Goals as goal
@@ -35,6 +37,8 @@ returns-in-Err-Usage g c =
       usage = λ kind k told. c.in-Err-Usage.ensures.usage kind k (let e = told in let f = c.in-Err-Usage.field-0-is in cc);
       is_usage = λ kind k first. rw c.in-Err-Usage.field-0-is (fault_told c.in-Err-Usage.field-0 c.in-Err-Usage.kind kind c.in-Err-Usage.word k c.in-Err-Usage.field-0-is (c.in-Err-Usage.ensures.is_usage kind k first));
       told = λ held stdin tells. rw c.in-Err-Usage.field-0-is (inl (inl (c.in-Err-Usage.kind, (c.in-Err-Usage.word, fault, refl))));
+      complete = λ held stdin tells end is. rw c.in-Err-Usage.field-0-is (inl (one_end c.args.words.now held stdin (Usage c.in-Err-Usage.kind c.in-Err-Usage.word) end (inl (c.in-Err-Usage.kind, (c.in-Err-Usage.word, fault, refl))) is));
+      succeeds = λ held stdin tells has. absurd (has.read.fine c.in-Err-Usage.kind c.in-Err-Usage.word fault.is);
       causes = record {
         cannot_read = λ name told. absurd (let e = told in cc);
         too_large = λ name limit told. absurd (let e = told in cc);
@@ -67,6 +71,8 @@ returns-in-Err-Memory g c = record {
   usage = λ kind k told. absurd (let e = told in cc);
   is_usage = λ kind k first. inr refl;
   told = λ held stdin tells. inr (inl tt);
+  complete = λ held stdin tells end is. inr (inl tt);
+  succeeds = λ held stdin tells has. inr (inl tt);
   causes = record {
     cannot_read = λ name told. absurd (let e = told in cc);
     too_large = λ name limit told. absurd (let e = told in cc);
@@ -115,20 +121,24 @@ returns-in-Ok-read_inputs g c =
     let same = inputs_are c.args.words.now c.in-Ok.command c.in-Ok.ensures.command ∙ sym c.inputs_of.ensures in
     let listening = listens_is c.args.words.now c.in-Ok.command c.in-Ok.ensures.command in
     let place = output_is c.args.words.now c.in-Ok.command c.in-Ok.ensures.command in
+    let told =
+    let Done : List ℕ → ℕ → ℕ → Type 0 = λ stdin i w. IsEndOf c.in-Ok.command stdin c.in-Ok-read_inputs.texts c.work.result ⊎ Stopped (output_of c.in-Ok.command) (failures (Rose i (faults c.work.new.input)) ⊥ (Rose (sinks c.args.output.now) (sinks c.work.new.output)) (Rose w (writes c.work.new.files))) c.work.result in
+    λ (held : Named) (stdin : List ℕ) (tells : TellsRun c.args.words.now (contents c.args.files.now) (left c.args.input.now) held stdin).
+    -- a program that has standard input for its own finds it as it was
+    let own : hears c.in-Ok.command ≡ true → left c.read_inputs.new.input ≡ Some stdin = λ own. ap left (c.in-Ok-read_inputs.ensures.untouched.unread (ap has_stdin c.inputs_of.ensures ∙ hears_no_stdin c.in-Ok.command own)) ∙ tells.heard (listening ∙ own) in
+    let done : Done stdin (faults c.read_inputs.new.input) (writes c.read_inputs.new.files) = end_over c.in-Ok.command c.in-Ok-read_inputs.texts stdin mid after (Rose (writes c.read_inputs.new.files) (writes c.work.new.files)) c.work.result own c.work.ensures.work c.work.ensures.ran in
+    -- nothing failed, and no write was counted, while inputs were read
+    let work : Done stdin (faults c.args.input.now) (writes c.args.files.now) = subst (λ (n : ℕ). Done stdin (faults c.args.input.now) n) c.in-Ok-read_inputs.ensures.leaves.files.writes (subst (λ (n : ℕ). Done stdin n (writes c.read_inputs.new.files)) c.in-Ok-read_inputs.ensures.leaves.input_fine done) in
+    told_ok c.args.words.now c.in-Ok.command c.inputs_of.result.now c.in-Ok-read_inputs.texts held stdin c.work.result
+    input_rose (Rose (faults c.args.input.now) (faults c.work.new.input)) files_rose (Rose (reads c.args.files.now) (reads c.work.new.files)) (Rose (sinks c.args.output.now) (sinks c.work.new.output)) (Rose (writes c.args.files.now) (writes c.work.new.files))
+    c.in-Ok.ensures.command c.inputs_of.ensures (c.in-Ok-read_inputs.ensures.told held stdin (rw same at tells.inputs)) work
+    in
     record {
       usage = λ kind k told. absurd (run_no_usage c.work.result (hears c.in-Ok.command) kind k c.work.ensures.of_work told);
       is_usage = λ kind k first. absurd (c.in-Ok.ensures.command.fine kind k first.is);
-      told =
-          let Done : List ℕ → ℕ → ℕ → Type 0 = λ stdin i w. IsEndOf c.in-Ok.command stdin c.in-Ok-read_inputs.texts c.work.result ⊎ Stopped (output_of c.in-Ok.command) (failures (Rose i (faults c.work.new.input)) ⊥ (Rose (sinks c.args.output.now) (sinks c.work.new.output)) (Rose w (writes c.work.new.files))) c.work.result in
-          λ held stdin tells.
-          -- a program that has standard input for its own finds it as it was
-          let told : hears c.in-Ok.command ≡ true → left c.read_inputs.new.input ≡ Some stdin = λ own. ap left (c.in-Ok-read_inputs.ensures.untouched.unread (ap has_stdin c.inputs_of.ensures ∙ hears_no_stdin c.in-Ok.command own)) ∙ tells.heard (listening ∙ own) in
-          let done : Done stdin (faults c.read_inputs.new.input) (writes c.read_inputs.new.files) = end_over c.in-Ok.command c.in-Ok-read_inputs.texts stdin mid after (Rose (writes c.read_inputs.new.files) (writes c.work.new.files)) c.work.result told c.work.ensures.work c.work.ensures.ran in
-          -- nothing failed, and no write was counted, while inputs were read
-          let work : Done stdin (faults c.args.input.now) (writes c.args.files.now) = subst (λ (n : ℕ). Done stdin (faults c.args.input.now) n) c.in-Ok-read_inputs.ensures.leaves.files.writes (subst (λ (n : ℕ). Done stdin n (writes c.read_inputs.new.files)) c.in-Ok-read_inputs.ensures.leaves.input_fine done) in
-          told_ok c.args.words.now c.in-Ok.command c.inputs_of.result.now c.in-Ok-read_inputs.texts held stdin c.work.result
-          input_rose (Rose (faults c.args.input.now) (faults c.work.new.input)) files_rose (Rose (reads c.args.files.now) (reads c.work.new.files)) (Rose (sinks c.args.output.now) (sinks c.work.new.output)) (Rose (writes c.args.files.now) (writes c.work.new.files))
-          c.in-Ok.ensures.command c.inputs_of.ensures (c.in-Ok-read_inputs.ensures.told held stdin (rw same at tells.inputs)) work;
+      told = told;
+      complete = λ held stdin tells end is. complete_by c.args.words.now held stdin c.work.result (told held stdin tells) end is;
+      succeeds = λ held stdin tells has. succeeds_by c.args.words.now held stdin c.work.result (told held stdin tells) has;
       causes = record {
         cannot_read = λ name told.
             let cause = unread_cause c.in-Ok.command c.in-Ok-read_inputs.texts mid after c.work.result c.work.ensures.of_work c.work.ensures.ran name told in
@@ -205,13 +215,17 @@ returns g c =
     let files_rose = Rose (reads c.args.files.now) (reads c.read_inputs.new.files) in
     let same = inputs_are c.args.words.now c.in-Ok.command c.in-Ok.ensures.command ∙ sym c.inputs_of.ensures in
     let listening = listens_is c.args.words.now c.in-Ok.command c.in-Ok.ensures.command in
+    let told = λ (held : Named) (stdin : List ℕ) (tells : TellsRun c.args.words.now (contents c.args.files.now) (left c.args.input.now) held stdin).
+    told_err c.args.words.now c.in-Ok.command c.inputs_of.result.now held stdin c.in-Err.ended
+    input_rose files_rose (Rose (sinks c.args.output.now) (sinks c.args.output.now)) (Rose (writes c.args.files.now) (writes c.read_inputs.new.files))
+    c.in-Ok.ensures.command c.inputs_of.ensures (c.in-Err.ensures.told held stdin (rw same at tells.inputs))
+    in
     record {
       usage = λ kind k told. absurd (never_usage c.inputs_of.result.now (contents c.args.files.now) (left c.args.input.now) input_rose files_rose c.in-Err.ended c.in-Err.ensures.refused kind k told);
       is_usage = λ kind k first. absurd (c.in-Ok.ensures.command.fine kind k first.is);
-      told = λ held stdin tells.
-          told_err c.args.words.now c.in-Ok.command c.inputs_of.result.now held stdin c.in-Err.ended
-          input_rose files_rose (Rose (sinks c.args.output.now) (sinks c.args.output.now)) (Rose (writes c.args.files.now) (writes c.read_inputs.new.files))
-          c.in-Ok.ensures.command c.inputs_of.ensures (c.in-Err.ensures.told held stdin (rw same at tells.inputs));
+      told = told;
+      complete = λ held stdin tells end is. complete_by c.args.words.now held stdin c.in-Err.ended (told held stdin tells) end is;
+      succeeds = λ held stdin tells has. succeeds_by c.args.words.now held stdin c.in-Err.ended (told held stdin tells) has;
       causes =
           let none : writes c.read_inputs.new.files ≡ writes c.args.files.now = c.in-Err.ensures.leaves.files.writes in
           record {
