@@ -1,0 +1,11 @@
+pub mod Best
+pub mod Lists
+pub mod Shifted
+pub mod Homes
+pub mod Order
+pub mod SymbolsAfter
+pub mod Search
+pub mod Standing
+pub mod ConflictAfter
+pub mod Readying
+pub mod TwoGoes

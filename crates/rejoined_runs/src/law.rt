@@ -1,0 +1,8 @@
+//! That linking in two goes is linking at once.
+ghost use Rattle.rejoined_runs.specs.Conflicts.{ConflictsStay};
+
+/// Where the first parts are well formed and valid, and have no conflict, the module that is made of them stands for them: linked with
+/// other parts, it is in a conflict exactly where they are.
+pub fn two_goes_link_as_one()
+    ensures conflicts { ConflictsStay }
+{}
