@@ -9,3 +9,4 @@ pub mod Standing
 pub mod ConflictAfter
 pub mod Readying
 pub mod TwoGoes
+pub mod LookUps

@@ -1,8 +1,10 @@
 //! That linking in two goes is linking at once.
 ghost use Rattle.rejoined_runs.specs.Conflicts.{ConflictsStay};
+ghost use Rattle.rejoined_runs.specs.Regroups.{RegroupsSymbols};
 
 /// Where the first parts are well formed and valid, and have no conflict, the module that is made of them stands for them: linked with
-/// other parts, it is in a conflict exactly where they are.
+/// other parts, it is in a conflict exactly where they are. Each symbol keeps its place in the order, its definition and its meaning.
 pub fn two_goes_link_as_one()
     ensures conflicts { ConflictsStay }
+    ensures symbols { RegroupsSymbols }
 {}

@@ -1,8 +1,8 @@
 //! Linking in two goes: the module that is made of some parts, linked with others, against all parts linked at once.
 //!
 //! It stands on the symbols that `link_rules` carries over. It promises that a conflict is reported in two goes exactly where one is
-//! reported at once, of the same kind and name.
-//! Definitions: `specs/Regrouped`, `Conflicts`.
+//! reported at once, of the same kind and name, and that each symbol keeps its place, its definition and its meaning.
+//! Definitions: `specs/Regrouped`, `Conflicts`, `Regroups`.
 //!
 //! ```
 //! -- of `@v = internal global i32 1`, `@v = internal global i32 2` and `@v = global i32 3`, the first two linked before
