@@ -10,3 +10,9 @@ pub mod ConflictAfter
 pub mod Readying
 pub mod TwoGoes
 pub mod LookUps
+pub mod PlacesAfter
+pub mod CodeAfter
+pub mod ContentsAfter
+pub mod MissingAfter
+pub mod PlanAfter
+pub mod RoomsAfter

@@ -12,7 +12,7 @@ use Rattle.type_table.specs.Shape.{shape}
 use Rattle.type_table.specs.Tree.{Tree}
 use Rattle.module_arena.specs.HostRows.{host_row}
 use Rattle.module_arena.specs.Module.{Bytes, Module}
-use Rattle.linkage_rules.specs.Bind.{Host, Null, Unresolved, undefined, all_extern_weak, is_function_symbol, target_of, behind_from, behind}
+use Rattle.linkage_rules.specs.Bind.{Host, Null, Unresolved, bound_to, own_meaning, meaning, undefined, all_extern_weak, is_function_symbol, target_of, behind_from, behind}
 use Rattle.linkage_rules.specs.Entries.{Entry, entries, same_symbol, symbol_of, symbol_in, entries_of}
 use Rattle.linkage_rules.specs.Globals.{Global, OfVariable, OfFunction, OfAlias, name_of, linkage_of, is_variable}
 use Rattle.linkage_rules.specs.Linkages.{is_local, is_extern_weak}
@@ -84,6 +84,10 @@ module _ (a b : List Module) where
 
   first_local : (i : ℕ) (name : Bytes) → i < length a → has same_symbol (map symbol_of (entries (old a b))) (Local i name) ≡ has same_symbol (map symbol_of (entries a)) (Local i name)
   first_local i name h = in_old (Local i name) ∙ or_nothing _ _ (none_later i name h)
+
+  -- a name of a first part is of the same symbol among those alone
+  pub first_symbol : (i : ℕ) (name : Bytes) → i < length a → symbol_in (old a b) i name ≡ symbol_in a i name
+  first_symbol i name h = ap (λ c. if c then Local i name else Shared name) (first_local i name h)
 
   -- an entry behind is of no symbol of part 0
   none_shifted : (name : Bytes) → has same_symbol (map symbol_of (later_shifted a b)) (Local 0 name) ≡ false
@@ -172,13 +176,32 @@ module _ (a b : List Module) where
         go true = refl
         go false = refl
 
+    no_entries : (ms : List Module) (m : Bytes) → has same_symbol (symbols ms) (Shared m) ≡ false → entries_of ms (Shared m) ≡ []
+    no_entries ms m gone =
+        filter_none same_symbol symbol_self symbol_exact symbol_of (λ e. true) (Shared m) (entries ms)
+        (false_from_ne_true _ (λ h. both_ways _ gone (is_symbol ms (Shared m) h)))
+
     no_home : (ms : List Module) (m : Bytes) → has same_symbol (symbols ms) (Shared m) ≡ false → home ms (Shared m) ≡ None
-    no_home ms m gone =
-        ap (λ es. best ms (filter is_definition es)) (filter_none same_symbol symbol_self symbol_exact symbol_of (λ e. true) (Shared m) (entries ms)
-        (false_from_ne_true _ (λ h. both_ways _ gone (is_symbol ms (Shared m) h))))
+    no_home ms m gone = ap (λ es. best ms (filter is_definition es)) (no_entries ms m gone)
+
+    still_absent : (m : Bytes) → has same_symbol (symbols (old a b)) (Shared m) ≡ false → has same_symbol (symbols (new a b)) (Shared m) ≡ false
+    still_absent m gone = ap (λ l. has same_symbol l (Shared m)) (symbols_after a b ready) ∙ after_has (symbols (old a b)) m ∙ gone
+
+    -- a name that no part has means as much as one that each can do without
+    absent_means : (ms : List Module) (m : Bytes) → has same_symbol (symbols ms) (Shared m) ≡ false → meaning ms (Shared m) ≡ Null
+    absent_means ms m gone =
+        (λ i. own_meaning ms (behind_from ms (Shared m) (no_home ms m gone i)))
+        ∙ (λ i. bound_to ms (Shared m) (no_home ms m gone i))
+        ∙ (λ i. if kind_of (no_entries ms m gone i) && is_some (host_row m) then Host m else (if list_all (λ (e : Entry). is_extern_weak (linkage_of e.global)) (no_entries ms m gone i) then Null else Unresolved))
+      where
+        kind_of : List Entry → Bool
+        kind_of es = option_map_or (λ (e : Entry). not (is_variable e.global)) (first es) false
+
+    pub absent_same : (m : Bytes) → has same_symbol (symbols (old a b)) (Shared m) ≡ false → (meaning (new a b) (Shared m) ≡ Null) × (meaning (old a b) (Shared m) ≡ Null)
+    absent_same m gone = (absent_means (new a b) m (still_absent m gone), absent_means (old a b) m gone)
 
     pub absent_after : (m : Bytes) → has same_symbol (symbols (old a b)) (Shared m) ≡ false → (home (old a b) (Shared m) ≡ None) × (home (new a b) (Shared m) ≡ None)
-    absent_after m gone = (no_home (old a b) m gone, no_home (new a b) m (ap (λ l. has same_symbol l (Shared m)) (symbols_after a b ready) ∙ after_has (symbols (old a b)) m ∙ gone))
+    absent_after m gone = (no_home (old a b) m gone, no_home (new a b) m (still_absent m gone))
 
     no_first : (s : Symbol) → home (old a b) s ≡ None → home a s ≡ None
     no_first s h = go (home a s) refl

@@ -1,3 +1,4 @@
 pub mod Regrouped
 pub mod Conflicts
 pub mod Regroups
+pub mod Runs
