@@ -15,4 +15,6 @@ pub mod CodeAfter
 pub mod ContentsAfter
 pub mod MissingAfter
 pub mod PlanAfter
+pub mod Greatest
+pub mod DefinitionsAfter
 pub mod RoomsAfter

@@ -56,151 +56,223 @@ module _ (a b : List Module) where
   too_low : (i : ℕ) → length a ≤ i → i < length a → ⊥
   too_low i h k = omega arith
 
-  in_halves : (ss ts : List Symbol) (s : Symbol) → has same_symbol (ss ++ ts) s ≡ (has same_symbol ss s || has same_symbol ts s)
+  in_halves : (ss ts : List Symbol) (s : Symbol)
+      → has same_symbol (ss ++ ts) s ≡ (has same_symbol ss s || has same_symbol ts s)
   in_halves ss ts s = list_any-append (same_symbol s) ss ts
 
-  keys_old : map symbol_of (entries (old a b)) ≡ map symbol_of (entries a) ++ map symbol_of (later a b)
+  keys_old : map symbol_of (entries (old a b))
+      ≡ map symbol_of (entries a) ++ map symbol_of (later a b)
   keys_old = ap (map symbol_of) (entries_old a b) ∙ map-append symbol_of (entries a) (later a b)
 
-  keys_new : map symbol_of (entries (new a b)) ≡ map symbol_of (entries (merged a)) ++ map symbol_of (later_shifted a b)
-  keys_new = ap (map symbol_of) (entries_new a b) ∙ map-append symbol_of (entries (merged a)) (later_shifted a b)
+  keys_new : map symbol_of (entries (new a b))
+      ≡ map symbol_of (entries (merged a)) ++ map symbol_of (later_shifted a b)
+  keys_new = ap (map symbol_of) (entries_new a b)
+      ∙ map-append symbol_of (entries (merged a)) (later_shifted a b)
 
-  in_old : (s : Symbol) → has same_symbol (map symbol_of (entries (old a b))) s ≡ (has same_symbol (map symbol_of (entries a)) s || has same_symbol (map symbol_of (later a b)) s)
-  in_old s = ap (λ l. has same_symbol l s) keys_old ∙ in_halves (map symbol_of (entries a)) (map symbol_of (later a b)) s
+  in_old : (s : Symbol)
+      → has same_symbol (map symbol_of (entries (old a b))) s
+      ≡ (has same_symbol (map symbol_of (entries a)) s || has same_symbol
+      (map symbol_of (later a b)) s)
+  in_old s = ap (λ l. has same_symbol l s) keys_old
+      ∙ in_halves (map symbol_of (entries a)) (map symbol_of (later a b)) s
 
-  in_new : (s : Symbol) → has same_symbol (map symbol_of (entries (new a b))) s ≡ (has same_symbol (map symbol_of (entries (merged a))) s || has same_symbol (map symbol_of (later_shifted a b)) s)
-  in_new s = ap (λ l. has same_symbol l s) keys_new ∙ in_halves (map symbol_of (entries (merged a))) (map symbol_of (later_shifted a b)) s
+  in_new : (s : Symbol)
+      → has same_symbol (map symbol_of (entries (new a b))) s
+      ≡ (has same_symbol (map symbol_of (entries (merged a))) s || has same_symbol
+      (map symbol_of (later_shifted a b)) s)
+  in_new s = ap (λ l. has same_symbol l s) keys_new
+      ∙ in_halves (map symbol_of (entries (merged a))) (map symbol_of (later_shifted a b)) s
 
   or_nothing : (c d : Bool) → d ≡ false → (c || d) ≡ c
   or_nothing true d h = refl
   or_nothing false d h = h
 
   -- a local symbol of a first part is that of no later entry
-  none_later : (i : ℕ) (name : Bytes) → i < length a → has same_symbol (map symbol_of (later a b)) (Local i name) ≡ false
-  none_later i name h = false_from_ne_true _ (λ t. too_low i (local_part a b (later a b) i name t (λ j. length a ≤ j) (later_all a b)) h)
+  none_later : (i : ℕ) (name : Bytes) → i < length a
+      → has same_symbol (map symbol_of (later a b)) (Local i name) ≡ false
+  none_later i name h =
+      false_from_ne_true _
+      (λ t. too_low i
+      (local_part a b (later a b) i name t (λ j. length a ≤ j) (later_all a b)) h)
 
-  none_before : (i : ℕ) (name : Bytes) → length a ≤ i → has same_symbol (map symbol_of (entries a)) (Local i name) ≡ false
+  none_before : (i : ℕ) (name : Bytes) → length a ≤ i
+      → has same_symbol (map symbol_of (entries a)) (Local i name) ≡ false
   none_before i name h = nothing_before a b (Local i name) h
 
-  first_local : (i : ℕ) (name : Bytes) → i < length a → has same_symbol (map symbol_of (entries (old a b))) (Local i name) ≡ has same_symbol (map symbol_of (entries a)) (Local i name)
+  first_local : (i : ℕ) (name : Bytes) → i < length a
+      → has same_symbol (map symbol_of (entries (old a b))) (Local i name)
+      ≡ has same_symbol (map symbol_of (entries a)) (Local i name)
   first_local i name h = in_old (Local i name) ∙ or_nothing _ _ (none_later i name h)
 
   -- a name of a first part is of the same symbol among those alone
-  pub first_symbol : (i : ℕ) (name : Bytes) → i < length a → symbol_in (old a b) i name ≡ symbol_in a i name
+  pub first_symbol : (i : ℕ) (name : Bytes) → i < length a
+      → symbol_in (old a b) i name ≡ symbol_in a i name
   first_symbol i name h = ap (λ c. if c then Local i name else Shared name) (first_local i name h)
 
   -- an entry behind is of no symbol of part 0
-  none_shifted : (name : Bytes) → has same_symbol (map symbol_of (later_shifted a b)) (Local 0 name) ≡ false
+  none_shifted : (name : Bytes)
+      → has same_symbol (map symbol_of (later_shifted a b)) (Local 0 name) ≡ false
   none_shifted name = go (later a b)
     where
-      by_test : (c : Bool) (k : ℕ) (m : Bytes) → same_symbol (Local 0 name) (if c then Local (suc k) m else Shared m) ≡ false
+      by_test : (c : Bool) (k : ℕ) (m : Bytes)
+          → same_symbol (Local 0 name) (if c then Local (suc k) m else Shared m) ≡ false
       by_test true k m = zero_apart k _
       by_test false k m = refl
 
-      go : (es : List Entry) → has same_symbol (map symbol_of (map (shift (length a)) es)) (Local 0 name) ≡ false
+      go : (es : List Entry)
+          → has same_symbol (map symbol_of (map (shift (length a)) es)) (Local 0 name) ≡ false
       go [] = refl
-      go (e ∷ es) = or_from _ _ (by_test (is_local (linkage_of e.global)) (e.part - length a) (name_of e.global)) (go es)
+      go (e ∷ es) =
+          or_from _ _
+          (by_test (is_local (linkage_of e.global)) (e.part - length a) (name_of e.global))
+          (go es)
 
-  shifted_has : (i : ℕ) (name : Bytes) → length a ≤ i → has same_symbol (map symbol_of (later_shifted a b)) (Local (suc (i - length a)) name) ≡ has same_symbol (map symbol_of (later a b)) (Local i name)
+  shifted_has : (i : ℕ) (name : Bytes) → length a ≤ i
+      → has same_symbol (map symbol_of (later_shifted a b)) (Local (suc (i - length a)) name)
+      ≡ has same_symbol (map symbol_of (later a b)) (Local i name)
   shifted_has i name h = go (later a b) (later_all a b)
     where
       after : symbol_after a (Local i name) ≡ Local (suc (i - length a)) name
       after = cond-false (nat_lt i (length a)) _ _ (is_past i (length a) h)
 
-      go : (es : List Entry) → AllByRecursion (λ e. length a ≤ e.part) es → has same_symbol (map symbol_of (map (shift (length a)) es)) (Local (suc (i - length a)) name) ≡ has same_symbol (map symbol_of es) (Local i name)
+      go : (es : List Entry) → AllByRecursion (λ e. length a ≤ e.part) es
+          → has same_symbol (map symbol_of (map (shift (length a)) es))
+          (Local (suc (i - length a)) name) ≡ has same_symbol (map symbol_of es) (Local i name)
       go [] all = refl
-      go (e ∷ es) all = ap₂ (λ c d. c || d) (ap (λ s. same_symbol s (symbol_of (shift (length a) e))) (sym after) ∙ same_after a b (Local i name) e all.0) (go es all.1)
+      go (e ∷ es) all =
+          ap₂ (λ c d. c || d) (ap (λ s. same_symbol s (symbol_of (shift (length a) e))) (sym after)
+          ∙ same_after a b (Local i name) e all.0) (go es all.1)
 
   module _ (ready : Ready a) where
-    pub first_names : (i : ℕ) (name : Bytes) → i < length a → KnownName a i name → symbol_in (new a b) 0 (new_global a i name) ≡ symbol_after a (symbol_in (old a b) i name)
+    pub first_names : (i : ℕ) (name : Bytes) → i < length a → KnownName a i name
+        → symbol_in (new a b) 0 (new_global a i name) ≡ symbol_after a (symbol_in (old a b) i name)
     first_names i name h known =
-        ap (λ c. if c then Local 0 m else Shared m) (in_new (Local 0 m) ∙ or_nothing _ _ (none_shifted m))
+        ap (λ c. if c then Local 0 m else Shared m) (in_new (Local 0 m)
+        ∙ or_nothing _ _ (none_shifted m))
         ∙ ready.merges.names i name known ∙ sym (after_carry a b (symbol_in a i name) known)
-        ∙ ap (λ c. symbol_after a (if c then Local i name else Shared name)) (sym (first_local i name h))
+        ∙ ap (λ c. symbol_after a (if c then Local i name else Shared name))
+        (sym (first_local i name h))
       where
         m : Bytes
         m = new_global a i name
 
-    pub later_names : (i : ℕ) (name : Bytes) → length a ≤ i → symbol_in (new a b) (suc (i - length a)) name ≡ symbol_after a (symbol_in (old a b) i name)
+    pub later_names : (i : ℕ) (name : Bytes) → length a ≤ i
+        → symbol_in (new a b) (suc (i - length a)) name
+        ≡ symbol_after a (symbol_in (old a b) i name)
     later_names i name h =
         ap (λ c. if c then Local (suc (i - length a)) name else Shared name)
         (in_new (Local (suc (i - length a)) name)
-        ∙ ap₂ (λ c d. c || d) (ap (λ l. has same_symbol l (Local (suc (i - length a)) name)) (merged_keys a b ready) ∙ carried_none a b ready (symbols a) (i - length a) name) (shifted_has i name h)
-        ∙ sym (in_old (Local i name) ∙ ap (λ c. c || has same_symbol (map symbol_of (later a b)) (Local i name)) (none_before i name h)))
+        ∙ ap₂ (λ c d. c || d)
+        (ap (λ l. has same_symbol l (Local (suc (i - length a)) name)) (merged_keys a b ready)
+        ∙ carried_none a b ready (symbols a) (i - length a) name) (shifted_has i name h)
+        ∙ sym (in_old (Local i name)
+        ∙ ap (λ c. c || has same_symbol (map symbol_of (later a b)) (Local i name))
+        (none_before i name h)))
         ∙ go (has same_symbol (map symbol_of (entries (old a b))) (Local i name))
       where
-        go : (c : Bool) → (if c then Local (suc (i - length a)) name else Shared name) ≡ symbol_after a (if c then Local i name else Shared name)
+        go : (c : Bool)
+            → (if c then Local (suc (i - length a)) name else Shared name)
+            ≡ symbol_after a (if c then Local i name else Shared name)
         go true = sym (cond-false (nat_lt i (length a)) _ _ (is_past i (length a) h))
         go false = refl
 
     -- NO TWO BECOME ONE
 
     -- a later symbol is that of a later entry
-    later_entry : (t : Symbol) → IsSymbol (old a b) t → IsLater a b t → (e : Entry) × (length a ≤ e.part) × (symbol_of e ≡ t)
+    later_entry : (t : Symbol) → IsSymbol (old a b) t → IsLater a b t
+        → (e : Entry) × (length a ≤ e.part) × (symbol_of e ≡ t)
     later_entry t here is =
         let found = at_has same_symbol symbol_self symbol_exact (symbols (old a b)) t here in
         let there = at_all _ (symbols (old a b)) found.0 t (symbols_have (old a b)) found.1 in
-        let behind = at_has same_symbol symbol_self symbol_exact (map symbol_of (later a b)) t (in_later there) in
+        let behind =
+        at_has same_symbol symbol_self symbol_exact (map symbol_of (later a b)) t
+        (in_later there) in
         by_place (later a b) behind.0 (later_all a b) behind.1
       where
-        in_later : has same_symbol (map symbol_of (entries (old a b))) t ≡ true → has same_symbol (map symbol_of (later a b)) t ≡ true
-        in_later h = sym (ap (λ c. c || has same_symbol (map symbol_of (later a b)) t) (nothing_before a b t is)) ∙ sym (in_old t) ∙ h
+        in_later : has same_symbol (map symbol_of (entries (old a b))) t ≡ true
+            → has same_symbol (map symbol_of (later a b)) t ≡ true
+        in_later h =
+            sym (ap (λ c. c || has same_symbol (map symbol_of (later a b)) t)
+            (nothing_before a b t is)) ∙ sym (in_old t) ∙ h
 
-        by_place : (es : List Entry) (k : ℕ) → AllByRecursion (λ e. length a ≤ e.part) es → slice_get (map symbol_of es) k ≡ Some t → (e : Entry) × (length a ≤ e.part) × (symbol_of e ≡ t)
+        by_place : (es : List Entry) (k : ℕ) → AllByRecursion (λ e. length a ≤ e.part) es
+            → slice_get (map symbol_of es) k ≡ Some t
+            → (e : Entry) × (length a ≤ e.part) × (symbol_of e ≡ t)
         by_place [] k all h = cc
         by_place (e ∷ es) zero all h = (e, all.0, same_Some (symbol_of e) t h)
         by_place (e ∷ es) (suc k) all h = by_place es k all.1 h
 
-    apart_later : (s t : Symbol) → IsSymbol (old a b) t → IsLater a b t → same_symbol (symbol_after a s) (symbol_after a t) ≡ same_symbol s t
+    apart_later : (s t : Symbol) → IsSymbol (old a b) t → IsLater a b t
+        → same_symbol (symbol_after a s) (symbol_after a t) ≡ same_symbol s t
     apart_later s t here is =
         let found = later_entry t here is in
-        ap (λ u. same_symbol (symbol_after a s) (symbol_after a u)) (sym found.2) ∙ ap (same_symbol (symbol_after a s)) (sym (shifted_symbol a b found.0 found.1))
+        ap (λ u. same_symbol (symbol_after a s) (symbol_after a u)) (sym found.2)
+        ∙ ap (same_symbol (symbol_after a s)) (sym (shifted_symbol a b found.0 found.1))
         ∙ same_after a b s found.0 found.1 ∙ ap (same_symbol s) found.2
 
-    pub apart_after : (s t : Symbol) → IsSymbol (old a b) s → IsSymbol (old a b) t → same_symbol (symbol_after a s) (symbol_after a t) ≡ same_symbol s t
+    pub apart_after : (s t : Symbol) → IsSymbol (old a b) s → IsSymbol (old a b) t
+        → same_symbol (symbol_after a s) (symbol_after a t) ≡ same_symbol s t
     apart_after s t here there = go (either a b s here) (either a b t there)
       where
-        go : IsSymbol a s ⊎ IsLater a b s → IsSymbol a t ⊎ IsLater a b t → same_symbol (symbol_after a s) (symbol_after a t) ≡ same_symbol s t
-        go (inl k) (inl l) = (λ i. same_symbol (after_carry a b s k i) (after_carry a b t l i)) ∙ ready.merges.apart s t k l
-        go (inr k) q = same_swapped (symbol_after a s) (symbol_after a t) ∙ apart_later t s here k ∙ same_swapped t s
+        go : IsSymbol a s ⊎ IsLater a b s → IsSymbol a t ⊎ IsLater a b t
+            → same_symbol (symbol_after a s) (symbol_after a t) ≡ same_symbol s t
+        go (inl k) (inl l) = (λ i. same_symbol (after_carry a b s k i) (after_carry a b t l i))
+            ∙ ready.merges.apart s t k l
+        go (inr k) q = same_swapped (symbol_after a s) (symbol_after a t) ∙ apart_later t s here k
+            ∙ same_swapped t s
         go (inl k) (inr l) = apart_later s t there l
 
     -- WHERE NOTHING IS DEFINED
 
-    after_has : (ss : List Symbol) (m : Bytes) → has same_symbol (map (symbol_after a) ss) (Shared m) ≡ has same_symbol ss (Shared m)
+    after_has : (ss : List Symbol) (m : Bytes)
+        → has same_symbol (map (symbol_after a) ss) (Shared m) ≡ has same_symbol ss (Shared m)
     after_has [] m = refl
     after_has (Shared n ∷ ss) m = ap (λ c. same_symbol (Shared m) (Shared n) || c) (after_has ss m)
     after_has (Local i n ∷ ss) m = ap₂ (λ c d. c || d) (go (nat_lt i (length a))) (after_has ss m)
       where
-        go : (c : Bool) → same_symbol (Shared m) (if c then Local 0 (new_name_of a (Local i n)) else Local (suc (i - length a)) n) ≡ false
+        go : (c : Bool)
+            → same_symbol (Shared m)
+            (if c then Local 0 (new_name_of a (Local i n)) else Local (suc (i - length a)) n)
+            ≡ false
         go true = refl
         go false = refl
 
-    no_entries : (ms : List Module) (m : Bytes) → has same_symbol (symbols ms) (Shared m) ≡ false → entries_of ms (Shared m) ≡ []
+    no_entries : (ms : List Module) (m : Bytes) → has same_symbol (symbols ms) (Shared m) ≡ false
+        → entries_of ms (Shared m) ≡ []
     no_entries ms m gone =
-        filter_none same_symbol symbol_self symbol_exact symbol_of (λ e. true) (Shared m) (entries ms)
+        filter_none same_symbol symbol_self symbol_exact symbol_of (λ e. true) (Shared m)
+        (entries ms)
         (false_from_ne_true _ (λ h. both_ways _ gone (is_symbol ms (Shared m) h)))
 
-    no_home : (ms : List Module) (m : Bytes) → has same_symbol (symbols ms) (Shared m) ≡ false → home ms (Shared m) ≡ None
+    no_home : (ms : List Module) (m : Bytes) → has same_symbol (symbols ms) (Shared m) ≡ false
+        → home ms (Shared m) ≡ None
     no_home ms m gone = ap (λ es. best ms (filter is_definition es)) (no_entries ms m gone)
 
-    still_absent : (m : Bytes) → has same_symbol (symbols (old a b)) (Shared m) ≡ false → has same_symbol (symbols (new a b)) (Shared m) ≡ false
-    still_absent m gone = ap (λ l. has same_symbol l (Shared m)) (symbols_after a b ready) ∙ after_has (symbols (old a b)) m ∙ gone
+    still_absent : (m : Bytes) → has same_symbol (symbols (old a b)) (Shared m) ≡ false
+        → has same_symbol (symbols (new a b)) (Shared m) ≡ false
+    still_absent m gone = ap (λ l. has same_symbol l (Shared m)) (symbols_after a b ready)
+        ∙ after_has (symbols (old a b)) m ∙ gone
 
     -- a name that no part has means as much as one that each can do without
-    absent_means : (ms : List Module) (m : Bytes) → has same_symbol (symbols ms) (Shared m) ≡ false → meaning ms (Shared m) ≡ Null
+    absent_means : (ms : List Module) (m : Bytes) → has same_symbol (symbols ms) (Shared m) ≡ false
+        → meaning ms (Shared m) ≡ Null
     absent_means ms m gone =
         (λ i. own_meaning ms (behind_from ms (Shared m) (no_home ms m gone i)))
         ∙ (λ i. bound_to ms (Shared m) (no_home ms m gone i))
-        ∙ (λ i. if kind_of (no_entries ms m gone i) && is_some (host_row m) then Host m else (if list_all (λ (e : Entry). is_extern_weak (linkage_of e.global)) (no_entries ms m gone i) then Null else Unresolved))
+        ∙ (λ i. if kind_of (no_entries ms m gone i) && is_some (host_row m) then Host m else
+        (if list_all (λ (e : Entry). is_extern_weak (linkage_of e.global))
+        (no_entries ms m gone i) then Null else Unresolved))
       where
         kind_of : List Entry → Bool
         kind_of es = option_map_or (λ (e : Entry). not (is_variable e.global)) (first es) false
 
-    pub absent_same : (m : Bytes) → has same_symbol (symbols (old a b)) (Shared m) ≡ false → (meaning (new a b) (Shared m) ≡ Null) × (meaning (old a b) (Shared m) ≡ Null)
-    absent_same m gone = (absent_means (new a b) m (still_absent m gone), absent_means (old a b) m gone)
+    pub absent_same : (m : Bytes) → has same_symbol (symbols (old a b)) (Shared m) ≡ false
+        → (meaning (new a b) (Shared m) ≡ Null) × (meaning (old a b) (Shared m) ≡ Null)
+    absent_same m gone =
+        (absent_means (new a b) m (still_absent m gone), absent_means (old a b) m gone)
 
-    pub absent_after : (m : Bytes) → has same_symbol (symbols (old a b)) (Shared m) ≡ false → (home (old a b) (Shared m) ≡ None) × (home (new a b) (Shared m) ≡ None)
+    pub absent_after : (m : Bytes) → has same_symbol (symbols (old a b)) (Shared m) ≡ false
+        → (home (old a b) (Shared m) ≡ None) × (home (new a b) (Shared m) ≡ None)
     absent_after m gone = (no_home (old a b) m gone, no_home (new a b) m (still_absent m gone))
 
     no_first : (s : Symbol) → home (old a b) s ≡ None → home a s ≡ None
@@ -216,7 +288,10 @@ module _ (a b : List Module) where
 
         go : (o : Option Entry) → home a s ≡ o → home a s ≡ None
         go None k = k
-        go (Some e) k = absurd (some e (later_home a b ready s) (sym (home_old a b ready s ∙ ap (λ o. better_of (old a b) o (later_home a b ready s)) k) ∙ h))
+        go (Some e) k =
+            absurd (some e (later_home a b ready s)
+            (sym (home_old a b ready s
+            ∙ ap (λ o. better_of (old a b) o (later_home a b ready s)) k) ∙ h))
 
     abbrev weak : Entry → Bool
     weak e = is_extern_weak (linkage_of e.global)
@@ -230,13 +305,19 @@ module _ (a b : List Module) where
       pub kind_same : kind_in es ≡ kind_in ds
       pub empty_same : is_some (first es) ≡ is_some (first ds)
 
-    declared_first : (m : Bytes) → home a (Shared m) ≡ None → IsDeclared (entries_of (merged a) (Shared m)) (entries_of a (Shared m))
+    declared_first : (m : Bytes) → home a (Shared m) ≡ None
+        → IsDeclared (entries_of (merged a) (Shared m)) (entries_of a (Shared m))
     declared_first m h = go (has same_symbol (symbols a) (Shared m)) refl
       where
-        go : (c : Bool) → has same_symbol (symbols a) (Shared m) ≡ c → IsDeclared (entries_of (merged a) (Shared m)) (entries_of a (Shared m))
+        go : (c : Bool) → has same_symbol (symbols a) (Shared m) ≡ c
+            → IsDeclared (entries_of (merged a) (Shared m)) (entries_of a (Shared m))
         go false gone =
-            let one = filter_none same_symbol symbol_self symbol_exact symbol_of (λ e. true) (Shared m) (entries (merged a)) (nothing_merged a b ready (Shared m) gone) in
-            let other = filter_none same_symbol symbol_self symbol_exact symbol_of (λ e. true) (Shared m) (entries a) (nothing_before a b (Shared m) gone) in
+            let one =
+            filter_none same_symbol symbol_self symbol_exact symbol_of (λ e. true) (Shared m)
+            (entries (merged a)) (nothing_merged a b ready (Shared m) gone) in
+            let other =
+            filter_none same_symbol symbol_self symbol_exact symbol_of (λ e. true) (Shared m)
+            (entries a) (nothing_before a b (Shared m) gone) in
             record {
               weak_same = ap (list_all weak) (one ∙ sym other);
               kind_same = ap kind_in (one ∙ sym other);
@@ -244,48 +325,72 @@ module _ (a b : List Module) where
             }
         go true there =
             let found = at_has same_symbol symbol_self symbol_exact (symbols a) (Shared m) there in
-            let row = row_of (renaming a) found.0 (Shared m) (ap (λ l. slice_get l found.0) (keys a) ∙ found.1) in
-            let stays = shared_stays base_of (all_names a) (shared_names (symbols a)) (symbols a) found.0 m row.0 row.1 in
+            let row =
+            row_of (renaming a) found.0 (Shared m) (ap (λ l. slice_get l found.0) (keys a)
+            ∙ found.1) in
+            let stays =
+            shared_stays base_of (all_names a) (shared_names (symbols a))
+            (symbols a) found.0 m row.0 row.1 in
             let at = subst (λ n. slice_get (renaming a) found.0 ≡ Some (Shared m, n)) stays row.1 in
             record {
               weak_same = merged_weak a ready.together found.0 (Shared m) m at h;
               kind_same = merged_kind a ready.together found.0 (Shared m) m at h;
-              empty_same = ap (λ es. is_some (first es)) (merged_entries a ready.together found.0 (Shared m) m at) ∙ sym (ap is_some (has_first a ready.together found.0 (Shared m) m at).1);
+              empty_same =
+                  ap (λ es. is_some (first es))
+                  (merged_entries a ready.together found.0 (Shared m) m at)
+                  ∙ sym (ap is_some (has_first a ready.together found.0 (Shared m) m at).1);
             }
 
-    weak_joined : (m : Bytes) → home a (Shared m) ≡ None → all_extern_weak (new a b) (Shared m) ≡ all_extern_weak (old a b) (Shared m)
+    weak_joined : (m : Bytes) → home a (Shared m) ≡ None
+        → all_extern_weak (new a b) (Shared m) ≡ all_extern_weak (old a b) (Shared m)
     weak_joined m h =
-        ap (list_all weak) (entries_of_new a b (Shared m)) ∙ list_all-append weak (entries_of (merged a) (Shared m)) (map (shift (length a)) (later_of a b (Shared m)))
-        ∙ ap₂ (λ c d. c && d) (declared_first m h).weak_same (shifted_weak (later_of a b (Shared m)))
-        ∙ sym (ap (list_all weak) (entries_of_old a b (Shared m)) ∙ list_all-append weak (entries_of a (Shared m)) (later_of a b (Shared m)))
+        ap (list_all weak) (entries_of_new a b (Shared m))
+        ∙ list_all-append weak (entries_of (merged a) (Shared m))
+        (map (shift (length a)) (later_of a b (Shared m)))
+        ∙ ap₂ (λ c d. c && d) (declared_first m h).weak_same
+        (shifted_weak (later_of a b (Shared m)))
+        ∙ sym (ap (list_all weak) (entries_of_old a b (Shared m))
+        ∙ list_all-append weak (entries_of a (Shared m)) (later_of a b (Shared m)))
       where
-        shifted_weak : (es : List Entry) → list_all weak (map (shift (length a)) es) ≡ list_all weak es
+        shifted_weak : (es : List Entry)
+            → list_all weak (map (shift (length a)) es) ≡ list_all weak es
         shifted_weak [] = refl
         shifted_weak (e ∷ es) = ap (λ c. weak e && c) (shifted_weak es)
 
-    kind_joined : (m : Bytes) → home a (Shared m) ≡ None → is_function_symbol (new a b) (Shared m) ≡ is_function_symbol (old a b) (Shared m)
+    kind_joined : (m : Bytes) → home a (Shared m) ≡ None
+        → is_function_symbol (new a b) (Shared m) ≡ is_function_symbol (old a b) (Shared m)
     kind_joined m h =
         ap kind_in (entries_of_new a b (Shared m))
-        ∙ kinds (entries_of (merged a) (Shared m)) (entries_of a (Shared m)) (map (shift (length a)) (later_of a b (Shared m))) (later_of a b (Shared m)) (declared_first m h) (shifted_kind (later_of a b (Shared m)))
+        ∙ kinds (entries_of (merged a) (Shared m)) (entries_of a (Shared m))
+        (map (shift (length a)) (later_of a b (Shared m))) (later_of a b (Shared m))
+        (declared_first m h) (shifted_kind (later_of a b (Shared m)))
         ∙ sym (ap kind_in (entries_of_old a b (Shared m)))
       where
         shifted_kind : (es : List Entry) → kind_in (map (shift (length a)) es) ≡ kind_in es
         shifted_kind [] = refl
         shifted_kind (e ∷ es) = refl
 
-        kinds : (es ds xs ys : List Entry) → IsDeclared es ds → kind_in xs ≡ kind_in ys → kind_in (es ++ xs) ≡ kind_in (ds ++ ys)
+        kinds : (es ds xs ys : List Entry) → IsDeclared es ds → kind_in xs ≡ kind_in ys
+            → kind_in (es ++ xs) ≡ kind_in (ds ++ ys)
         kinds [] [] xs ys is same = same
-        kinds [] (d ∷ ds) xs ys is same = absurd (both_ways (is_some (first {A = Entry} [])) refl is.empty_same)
-        kinds (e ∷ es) [] xs ys is same = absurd (both_ways (is_some (first {A = Entry} [])) refl (sym is.empty_same))
+        kinds [] (d ∷ ds) xs ys is same =
+            absurd (both_ways (is_some (first {A = Entry} [])) refl is.empty_same)
+        kinds (e ∷ es) [] xs ys is same =
+            absurd (both_ways (is_some (first {A = Entry} [])) refl (sym is.empty_same))
         kinds (e ∷ es) (d ∷ ds) xs ys is same = is.kind_same
 
-    pub undefined_after : (s : Symbol) → home (old a b) s ≡ None → undefined (new a b) (symbol_after a s) ≡ undefined (old a b) s
+    pub undefined_after : (s : Symbol) → home (old a b) s ≡ None
+        → undefined (new a b) (symbol_after a s) ≡ undefined (old a b) s
     undefined_after (Shared m) h =
         let none = no_first (Shared m) h in
-        λ i. if kind_joined m none i && is_some (host_row m) then Host m else (if weak_joined m none i then Null else Unresolved)
+        λ i. if kind_joined m none i && is_some (host_row m) then Host m else
+        (if weak_joined m none i then Null else Unresolved)
     undefined_after (Local i m) h = go (nat_lt i (length a))
       where
-        go : (c : Bool) → undefined (new a b) (if c then Local 0 (new_name_of a (Local i m)) else Local (suc (i - length a)) m) ≡ Unresolved
+        go : (c : Bool)
+            → undefined (new a b)
+            (if c then Local 0 (new_name_of a (Local i m)) else Local (suc (i - length a)) m)
+            ≡ Unresolved
         go true = refl
         go false = refl
 
@@ -298,41 +403,72 @@ module _ (a b : List Module) where
       known_first : AllByRecursion KnownFirst (entries (old a b))
       known_first =
           subst (AllByRecursion KnownFirst) (sym (entries_old a b))
-          (all_joined KnownFirst (entries a) (later a b) (all_follow _ KnownFirst (entries a) (λ e k h. k) targets) (all_follow _ KnownFirst (later a b) (λ e low h. absurd (too_low e.part low h)) (later_all a b)))
+          (all_joined KnownFirst (entries a) (later a b)
+          (all_follow _ KnownFirst (entries a) (λ e k h. k) targets)
+          (all_follow _ KnownFirst (later a b) (λ e low h. absurd (too_low e.part low h))
+          (later_all a b)))
 
       target_after : (s : Symbol) (i : ℕ) (g : Global) → (i < length a → KnownTarget a i g)
-          → target_of (new a b) (symbol_after a s) (entry_after a s (record { part = i; global = g })).part (entry_after a s (record { part = i; global = g })).global ≡ symbol_after a (target_of (old a b) s i g)
+          → target_of (new a b) (symbol_after a s)
+          (entry_after a s (record { part = i; global = g })).part
+          (entry_after a s (record { part = i; global = g })).global
+          ≡ symbol_after a (target_of (old a b) s i g)
       target_after s i g known = go (nat_lt i (length a)) refl
         where
-          first_target : (g : Global) → i < length a → KnownTarget a i g → target_of (new a b) (symbol_after a s) 0 (moved a s (record { part = i; global = g })).global ≡ symbol_after a (target_of (old a b) s i g)
+          first_target : (g : Global) → i < length a → KnownTarget a i g
+              → target_of (new a b) (symbol_after a s) 0
+              (moved a s (record { part = i; global = g })).global
+              ≡ symbol_after a (target_of (old a b) s i g)
           first_target (OfVariable v) h k = refl
           first_target (OfFunction f) h k = refl
           first_target (OfAlias x) h k = first_names i x.target h k
 
-          later_target : (g : Global) → length a ≤ i → target_of (new a b) (symbol_after a s) (suc (i - length a)) g ≡ symbol_after a (target_of (old a b) s i g)
+          later_target : (g : Global) → length a ≤ i
+              → target_of (new a b) (symbol_after a s) (suc (i - length a)) g
+              ≡ symbol_after a (target_of (old a b) s i g)
           later_target (OfVariable v) h = refl
           later_target (OfFunction f) h = refl
           later_target (OfAlias x) h = later_names i x.target h
 
           go : (c : Bool) → nat_lt i (length a) ≡ c
-              → target_of (new a b) (symbol_after a s) (if c then moved a s (record { part = i; global = g }) else record { part = suc (i - length a); global = g }).part (if c then moved a s (record { part = i; global = g }) else record { part = suc (i - length a); global = g }).global
+              → target_of (new a b) (symbol_after a s)
+              (if c then moved a s (record { part = i; global = g }) else record {
+                part =
+                    suc (i - length a);
+                global = g;
+              }).part
+              (if c then moved a s
+              (record { part = i; global = g }) else record {
+                part =
+                    suc (i - length a);
+                global = g;
+              }).global
               ≡ symbol_after a (target_of (old a b) s i g)
           go true t = let low = below i (length a) t in first_target g low (known low)
           go false t = later_target g (not_below i (length a) t)
 
-      pub behind_after : (s : Symbol) → IsSymbol (old a b) s → behind (new a b) (symbol_after a s) ≡ symbol_after a (behind (old a b) s)
-      behind_after s here = ap (behind_from (new a b) (symbol_after a s)) (home_after a b ready s here) ∙ go (home (old a b) s) refl
+      pub behind_after : (s : Symbol) → IsSymbol (old a b) s
+          → behind (new a b) (symbol_after a s) ≡ symbol_after a (behind (old a b) s)
+      behind_after s here =
+          ap (behind_from (new a b) (symbol_after a s)) (home_after a b ready s here)
+          ∙ go (home (old a b) s) refl
         where
-          go : (o : Option Entry) → home (old a b) s ≡ o → behind_from (new a b) (symbol_after a s) (option_map (entry_after a s) o) ≡ symbol_after a (behind_from (old a b) s o)
+          go : (o : Option Entry) → home (old a b) s ≡ o
+              → behind_from (new a b) (symbol_after a s) (option_map (entry_after a s) o)
+              ≡ symbol_after a (behind_from (old a b) s o)
           go None h = refl
-          go (Some e) h = target_after s e.part e.global (home_is (old a b) KnownFirst s e known_first h).0.0
+          go (Some e) h =
+              target_after s e.part e.global (home_is (old a b) KnownFirst s e known_first h).0.0
 
       -- TYPES
 
-      first_shapes : (i : ℕ) (t : Tree) → i < length a → KnownTree a i t → shape_in (new a b) 0 (linked_type a i t) ≡ shape_in (old a b) i t
-      first_shapes i t h known = ready.merges.shapes i t known ∙ ap (λ structs. shape structs t) (sym (structs_before a b i h))
+      first_shapes : (i : ℕ) (t : Tree) → i < length a → KnownTree a i t
+          → shape_in (new a b) 0 (linked_type a i t) ≡ shape_in (old a b) i t
+      first_shapes i t h known = ready.merges.shapes i t known
+          ∙ ap (λ structs. shape structs t) (sym (structs_before a b i h))
 
-      later_shapes : (i : ℕ) (t : Tree) → length a ≤ i → shape_in (new a b) (suc (i - length a)) t ≡ shape_in (old a b) i t
+      later_shapes : (i : ℕ) (t : Tree) → length a ≤ i
+          → shape_in (new a b) (suc (i - length a)) t ≡ shape_in (old a b) i t
       later_shapes i t h = ap (λ structs. shape structs t) (structs_behind a b (link_result a) i h)
 
       pub regroups : Regroups a b

@@ -32,72 +32,124 @@ use Rattle.rejoined_runs.proofs.Homes.{Ready, old, new}
 use Rattle.rejoined_runs.proofs.MissingAfter.{first_missing_same}
 use Rattle.rejoined_runs.proofs.PlacesAfter.{Both, rooms_same, pointer_same, first_agree, later_same}
 
-module _ (a b : List Module) (ready : Ready a) (both : Both a b) (rooms_kept : AllByRecursion (λ s. room (new a b) (symbol_after a s) ≡ room (old a b) s) (variable_symbols (old a b))) where
+module _ (a b : List Module) (ready : Ready a) (both : Both a b)
+    (rooms_kept : AllByRecursion (λ s. room (new a b) (symbol_after a s) ≡ room (old a b) s)
+    (variable_symbols (old a b))) where
   -- MAIN
 
-  main_alike : IsSymbol (old a b) main_symbol → ToldAlike a b ready both rooms_kept (main_by (new a b)) (main_by (old a b))
+  main_alike : IsSymbol (old a b) main_symbol
+      → ToldAlike a b ready both rooms_kept (main_by (new a b)) (main_by (old a b))
   main_alike here = record {
-    first = λ m d h known k. main_of (signature_moved a m d known (names_in (old a b) d.0) (names_in (new a b) 0) (first_agree a b both rooms_kept d.0 h) k) (pointer_same a b both rooms_kept main_symbol here k).address;
-    behind = λ d h k. main_of (signature_in (later_same a b both rooms_kept ready d.0 h k) (signature_of d.1)) (pointer_same a b both rooms_kept main_symbol here k).address;
+    first = λ m d h known k. main_of
+        (signature_moved a m d known (names_in (old a b) d.0) (names_in (new a b) 0)
+        (first_agree a b both rooms_kept d.0 h) k)
+        (pointer_same a b both rooms_kept main_symbol here k).address;
+    behind = λ d h k. main_of
+        (signature_in (later_same a b both rooms_kept ready d.0 h k) (signature_of d.1))
+        (pointer_same a b both rooms_kept main_symbol here k).address;
   }
 
   main_same : main_in (new a b) ≡ main_in (old a b)
   main_same = go (has same_symbol (symbols (old a b)) main_symbol) refl
     where
-      go : (c : Bool) → has same_symbol (symbols (old a b)) main_symbol ≡ c → main_in (new a b) ≡ main_in (old a b)
+      go : (c : Bool) → has same_symbol (symbols (old a b)) main_symbol ≡ c
+          → main_in (new a b) ≡ main_in (old a b)
       go true here =
           and_then_or (main_by (new a b)) (defined (new a b) main_symbol)
-          ∙ by_symbol a b ready both rooms_kept (main_by (new a b)) (main_by (old a b)) None (main_alike here) main_symbol here
+          ∙ by_symbol a b ready both rooms_kept (main_by (new a b)) (main_by (old a b)) None
+          (main_alike here) main_symbol here
           ∙ sym (and_then_or (main_by (old a b)) (defined (old a b) main_symbol))
       go false gone =
           let none = both.regroups.absent (symbol_name main_symbol) gone in
-          (λ k. option_and_then (main_by (new a b)) (option_and_then (λ (e : Entry). defined_by e e.global) (home (new a b) (behind_from (new a b) main_symbol (none.1 k)))))
-          ∙ (λ k. option_and_then (main_by (new a b)) (option_and_then (λ (e : Entry). defined_by e e.global) (none.1 k)))
-          ∙ sym ((λ k. option_and_then (main_by (old a b)) (option_and_then (λ (e : Entry). defined_by e e.global) (home (old a b) (behind_from (old a b) main_symbol (none.0 k)))))
-          ∙ (λ k. option_and_then (main_by (old a b)) (option_and_then (λ (e : Entry). defined_by e e.global) (none.0 k))))
+          (λ k. option_and_then (main_by (new a b))
+          (option_and_then (λ (e : Entry). defined_by e e.global)
+          (home (new a b) (behind_from (new a b) main_symbol (none.1 k)))))
+          ∙ (λ k. option_and_then (main_by (new a b))
+          (option_and_then (λ (e : Entry). defined_by e e.global) (none.1 k)))
+          ∙ sym ((λ k. option_and_then (main_by (old a b))
+          (option_and_then (λ (e : Entry). defined_by e e.global)
+          (home (old a b) (behind_from (old a b) main_symbol (none.0 k)))))
+          ∙ (λ k. option_and_then (main_by (old a b))
+          (option_and_then (λ (e : Entry). defined_by e e.global) (none.0 k))))
 
   -- VARIABLES
 
   constant_same : (s : Symbol) → IsSymbol (old a b) s
-      → option_map_or (λ (e : Entry). is_constant e.global) (home (new a b) (symbol_after a s)) false ≡ option_map_or (λ (e : Entry). is_constant e.global) (home (old a b) s) false
-  constant_same s here = ap (λ o. option_map_or (λ (e : Entry). is_constant e.global) o false) (both.regroups.homes s here) ∙ go (home (old a b) s)
+      → option_map_or (λ (e : Entry). is_constant e.global)
+      (home (new a b) (symbol_after a s)) false
+      ≡ option_map_or (λ (e : Entry). is_constant e.global) (home (old a b) s) false
+  constant_same s here =
+      ap (λ o. option_map_or (λ (e : Entry). is_constant e.global) o false)
+      (both.regroups.homes s here) ∙ go (home (old a b) s)
     where
-      by_part : (e : Entry) (c : Bool) → is_constant (if c then moved a s e else record { part = suc (e.part - length a); global = e.global }).global ≡ is_constant e.global
+      by_part : (e : Entry) (c : Bool)
+          → is_constant
+          (if c then moved a s e else record {
+            part = suc (e.part - length a);
+            global =
+                e.global;
+          }).global ≡ is_constant e.global
       by_part e true = constant_kept a (new_name_of a s) e (definitions a s) e.global
       by_part e false = refl
 
-      go : (o : Option Entry) → option_map_or (λ (e : Entry). is_constant e.global) (option_map (entry_after a s) o) false ≡ option_map_or (λ (e : Entry). is_constant e.global) o false
+      go : (o : Option Entry)
+          → option_map_or (λ (e : Entry). is_constant e.global)
+          (option_map (entry_after a s) o) false
+          ≡ option_map_or (λ (e : Entry). is_constant e.global) o false
       go None = refl
       go (Some e) = by_part e (nat_lt e.part (length a))
 
-  variables_same : map (variable_of (new a b)) (rooms (new a b)) ≡ map (variable_of (old a b)) (rooms (old a b))
+  variables_same : map (variable_of (new a b)) (rooms (new a b))
+      ≡ map (variable_of (old a b)) (rooms (old a b))
   variables_same =
-      ap (map (variable_of (new a b))) (rooms_same a b both rooms_kept) ∙ map_map (variable_of (new a b)) (under (symbol_after a)) (rooms (old a b))
-      ∙ map_all (λ (row : Symbol × Room). variable_of (new a b) (under (symbol_after a) row)) (variable_of (old a b)) (λ (row : Symbol × Room). IsSymbol (old a b) row.0) (rooms (old a b))
-      (λ row here k. record { size = row.1.size; align = row.1.alignment; constant = constant_same row.0 here k }) (rooms_are (old a b))
+      ap (map (variable_of (new a b))) (rooms_same a b both rooms_kept)
+      ∙ map_map (variable_of (new a b)) (under (symbol_after a)) (rooms (old a b))
+      ∙ map_all (λ (row : Symbol × Room). variable_of (new a b) (under (symbol_after a) row))
+      (variable_of (old a b)) (λ (row : Symbol × Room). IsSymbol (old a b) row.0)
+      (rooms (old a b))
+      (λ row here k. record {
+        size = row.1.size;
+        align = row.1.alignment;
+        constant =
+            constant_same row.0 here k;
+      }) (rooms_are (old a b))
 
   abbrev stored : List Module → Symbol × Room → Pointer × Contents
   stored ms row = (pointer_to ms row.0, contents_of ms row.0)
 
   stores_same : map (stored (new a b)) (rooms (new a b)) ≡ map (stored (old a b)) (rooms (old a b))
   stores_same =
-      ap (map (stored (new a b))) (rooms_same a b both rooms_kept) ∙ map_map (stored (new a b)) (under (symbol_after a)) (rooms (old a b))
-      ∙ map_all (λ (row : Symbol × Room). stored (new a b) (under (symbol_after a) row)) (stored (old a b)) (λ (row : Symbol × Room). IsSymbol (old a b) row.0) (rooms (old a b))
-      (λ row here k. (pointer_same a b both rooms_kept row.0 here k, contents_same a b ready both rooms_kept row.0 here k)) (rooms_are (old a b))
+      ap (map (stored (new a b))) (rooms_same a b both rooms_kept)
+      ∙ map_map (stored (new a b)) (under (symbol_after a)) (rooms (old a b))
+      ∙ map_all (λ (row : Symbol × Room). stored (new a b) (under (symbol_after a) row))
+      (stored (old a b)) (λ (row : Symbol × Room). IsSymbol (old a b) row.0) (rooms (old a b))
+      (λ row here k.
+      (pointer_same a b both rooms_kept row.0 here k, contents_same a b ready both rooms_kept row.0 here k)) (rooms_are (old a b))
 
   -- CONSTRUCTORS
 
   constructors_same : constructors (new a b) ≡ constructors (old a b)
   constructors_same = go (has same_symbol (symbols (old a b)) constructors_symbol) refl
     where
-      go : (c : Bool) → has same_symbol (symbols (old a b)) constructors_symbol ≡ c → constructors (new a b) ≡ constructors (old a b)
+      go : (c : Bool) → has same_symbol (symbols (old a b)) constructors_symbol ≡ c
+          → constructors (new a b) ≡ constructors (old a b)
       go true here =
-          (λ k. in_order (constructors_in (new a b) (pieces_same a b ready both rooms_kept constructors_symbol here k)))
-          ∙ ap in_order (constructors_moved a b ready both rooms_kept _ (pieces_known a b ready both rooms_kept constructors_symbol))
+          (λ k. in_order
+          (constructors_in (new a b)
+          (pieces_same a b ready both rooms_kept constructors_symbol here k)))
+          ∙ ap in_order
+          (constructors_moved a b ready both rooms_kept _
+          (pieces_known a b ready both rooms_kept constructors_symbol))
       go false gone =
           let none = both.regroups.absent (symbol_name constructors_symbol) gone in
-          (λ k. in_order (constructors_in (new a b) (option_map_or (λ e. pieces_by e (definitions (new a b) constructors_symbol)) (none.1 k) [])))
-          ∙ sym (λ k. in_order (constructors_in (old a b) (option_map_or (λ e. pieces_by e (definitions (old a b) constructors_symbol)) (none.0 k) [])))
+          (λ k. in_order
+          (constructors_in (new a b)
+          (option_map_or (λ e. pieces_by e (definitions (new a b) constructors_symbol))
+          (none.1 k) [])))
+          ∙ sym (λ k. in_order
+          (constructors_in (old a b)
+          (option_map_or (λ e. pieces_by e (definitions (old a b) constructors_symbol))
+          (none.0 k) [])))
 
   pub same_plan : plan (new a b) ≡ plan (old a b)
   same_plan = λ k. record {

@@ -13,24 +13,30 @@ abbrev at : ℕ → Global → Entry
 at i g = record { part = i; global = g }
 
 -- the entries of two lists of parts
-pub entries_joined : (i : ℕ) (a b : List Module) → entries_from i (a ++ b) ≡ entries_from i a ++ entries_from (i + length a) b
+pub entries_joined : (i : ℕ) (a b : List Module)
+    → entries_from i (a ++ b) ≡ entries_from i a ++ entries_from (i + length a) b
 entries_joined i [] b = ap (λ k. entries_from k b) (omega arith)
 entries_joined i (m ∷ a) b =
     ap (λ l. map (at i) (globals m) ++ l) (entries_joined (suc i) a b)
-    ∙ sym (append_assoc (map (at i) (globals m)) (entries_from (suc i) a) (entries_from (suc i + length a) b))
+    ∙ sym (append_assoc (map (at i) (globals m)) (entries_from (suc i) a)
+    (entries_from (suc i + length a) b))
     ∙ ap (λ k. (map (at i) (globals m) ++ entries_from (suc i) a) ++ entries_from k b) (omega arith)
 
 -- the part numbers of some entries
-pub entries_within : (i : ℕ) (ms : List Module) → AllByRecursion (λ e. (i ≤ e.part) × (e.part < i + length ms)) (entries_from i ms)
+pub entries_within : (i : ℕ) (ms : List Module)
+    → AllByRecursion (λ e. (i ≤ e.part) × (e.part < i + length ms)) (entries_from i ms)
 entries_within i [] = tt
 entries_within i (m ∷ ms) =
     all_joined _ (map (at i) (globals m)) (entries_from (suc i) ms)
     (all_mapped _ (at i) (globals m) (all_true_of _ (λ g. (omega arith, omega arith)) (globals m)))
     (wider (entries_from (suc i) ms) (entries_within (suc i) ms))
   where
-    wider : (es : List Entry) → AllByRecursion (λ e. (suc i ≤ e.part) × (e.part < suc i + length ms)) es → AllByRecursion (λ e. (i ≤ e.part) × (e.part < i + suc (length ms))) es
+    wider : (es : List Entry)
+        → AllByRecursion (λ e. (suc i ≤ e.part) × (e.part < suc i + length ms)) es
+        → AllByRecursion (λ e. (i ≤ e.part) × (e.part < i + suc (length ms))) es
     wider [] all = tt
-    wider (e ∷ es) all = let low = all.0.0 in let high = all.0.1 in ((omega arith, omega arith), wider es all.1)
+    wider (e ∷ es) all = let low = all.0.0 in let high =
+        all.0.1 in ((omega arith, omega arith), wider es all.1)
 
 -- the number that a part behind the first `count` has, where those are one
 abbrev pub shifted : ℕ → ℕ → ℕ
@@ -40,13 +46,16 @@ shifted count i = suc (i - count)
 abbrev pub shift : ℕ → Entry → Entry
 shift count e = record { part = shifted count e.part; global = e.global }
 
-pub entries_shifted : (count k : ℕ) (ms : List Module) → entries_from (suc k) ms ≡ map (shift count) (entries_from (count + k) ms)
+pub entries_shifted : (count k : ℕ) (ms : List Module)
+    → entries_from (suc k) ms ≡ map (shift count) (entries_from (count + k) ms)
 entries_shifted count k [] = refl
 entries_shifted count k (m ∷ ms) =
     ap₂ (λ x y. x ++ y)
-    ((λ i. map (at (suc (here i))) (globals m)) ∙ sym (map_map (shift count) (at (count + k)) (globals m)))
+    ((λ i. map (at (suc (here i))) (globals m))
+    ∙ sym (map_map (shift count) (at (count + k)) (globals m)))
     (entries_shifted count (suc k) ms ∙ ap (λ j. map (shift count) (entries_from j ms)) next)
-    ∙ sym (map-append (shift count) (map (at (count + k)) (globals m)) (entries_from (suc (count + k)) ms))
+    ∙ sym (map-append (shift count) (map (at (count + k)) (globals m))
+    (entries_from (suc (count + k)) ms))
   where
     here : k ≡ (count + k) - count
     here = omega arith
@@ -65,5 +74,6 @@ module _ (a b : List Module) where
   structs_before i h = ap (λ (m : Module). m.structs) (part_before i h)
 
   -- what one module in place of the first parts leaves
-  pub structs_behind : (m : Module) (i : ℕ) → length a ≤ i → structs_at (m ∷ b) (shifted (length a) i) ≡ structs_at (a ++ b) i
+  pub structs_behind : (m : Module) (i : ℕ) → length a ≤ i
+      → structs_at (m ∷ b) (shifted (length a) i) ≡ structs_at (a ++ b) i
   structs_behind m i h = ap (λ (n : Module). n.structs) (sym (part_behind i h))

@@ -20,10 +20,12 @@ use Rattle.rejoined_runs.proofs.Readying.{ready, appended}
 use Rattle.rejoined_runs.proofs.RoomsAfter.{rooms_kept}
 
 pub conflicts_stay : ConflictsStay
-conflicts_stay a b formed valid none = conflict_stays a b (ready a formed valid none) none (appended a formed valid none)
+conflicts_stay a b formed valid none =
+    conflict_stays a b (ready a formed valid none) none (appended a formed valid none)
 
 pub regroups_symbols : RegroupsSymbols
-regroups_symbols a b formed valid none = regroups a b (ready a formed valid none) (targets_known a formed)
+regroups_symbols a b formed valid none =
+    regroups a b (ready a formed valid none) (targets_known a formed)
 
 look_alike : (a b : List Module) → Ready a → Both a b → LookAlike (regrouped a b) (old a b)
 look_alike a b is both = record {
@@ -47,4 +49,5 @@ two_goes_look_alike a b two =
 pub two_goes_run_alike : TwoGoesRunAlike
 two_goes_run_alike a b two arguments input bound =
     let alike = two_goes_look_alike a b two in
-    λ i. run_of (λ f n p. alike.same_actions f n p i) (λ address. alike.same_callees address i) (alike.same_plan i) arguments input bound
+    λ i. run_of (λ f n p. alike.same_actions f n p i) (λ address. alike.same_callees address i)
+    (alike.same_plan i) arguments input bound

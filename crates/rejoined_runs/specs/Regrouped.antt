@@ -1,4 +1,5 @@
--- For `two_goes_link_as_one`: what the symbols, names and types of some parts are where the first of these parts
+-- For `two_goes_link_as_one`: what the symbols, names and types of some parts are where the first
+-- of these parts
 -- were linked to one, which the others follow.
 use Rattle.std.specs.Prelude.{ℕ, suc, ◌-◌, List, ◌∷◌, length, nat_lt, if◌then◌else◌}
 use Rattle.module_arena.specs.Module.{Bytes, Module}
@@ -21,11 +22,18 @@ part_after count i = if nat_lt i count then 0 else suc (i - count)
 -- what a symbol is then: a local one of the first parts has its new name
 abbrev pub symbol_after : List Module → Symbol → Symbol
 symbol_after a (Shared name) = Shared name
-symbol_after a (Local i name) = if nat_lt i (length a) then Local 0 (new_name_of a (Local i name)) else Local (suc (i - length a)) name
+symbol_after a (Local i name) =
+    if nat_lt i (length a) then Local 0 (new_name_of a (Local i name)) else Local
+    (suc (i - length a)) name
 
 -- what the definition of a symbol is then
 abbrev pub entry_after : List Module → Symbol → Entry → Entry
-entry_after a s e = if nat_lt e.part (length a) then moved a s e else record { part = suc (e.part - length a); global = e.global }
+entry_after a s e =
+    if nat_lt e.part (length a) then moved a s e else record {
+      part =
+          suc (e.part - length a);
+      global = e.global;
+    }
 
 -- what a name of part i is then
 abbrev pub global_after : List Module → ℕ → Bytes → Bytes

@@ -15,7 +15,8 @@ pub record LinkInTwoGoes (a b : List Module) : Type 0 where
   pub first_agree : first_conflict a ≡ None
   pub agree : first_conflict (a ++ b) ≡ None
 
--- each function has the same actions, each address the same callee, and a run the same blocks, addresses and due calls to begin with
+-- each function has the same actions, each address the same callee, and a run the same blocks,
+-- addresses and due calls to begin with
 abbrev pub TwoGoesLookAlike : Type 0
 TwoGoesLookAlike = (a b : List Module) → LinkInTwoGoes a b → LookAlike (regrouped a b) (a ++ b)
 

@@ -3,10 +3,11 @@ ghost use Rattle.rejoined_runs.specs.Conflicts.{ConflictsStay};
 ghost use Rattle.rejoined_runs.specs.Regroups.{RegroupsSymbols};
 ghost use Rattle.rejoined_runs.specs.Runs.{TwoGoesLookAlike, TwoGoesRunAlike};
 
-/// Where the first parts are well formed and valid, and have no conflict, the module that is made of them stands for them: linked with
-/// other parts, it is in a conflict exactly where they are. Each symbol keeps its place in the order, its definition and its meaning.
-/// So where all parts are well formed and valid, and have no conflict, they print the same and end the same way, the first linked before
-/// or not, for all arguments, inputs and bounds.
+/// Where the first parts are well formed and valid, and have no conflict, the module that is made of
+/// them stands for them: linked with other parts, it is in a conflict exactly where they are. Each
+/// symbol keeps its place in the order, its definition and its meaning. So where all parts are well
+/// formed and valid, and have no conflict, they print the same and end the same way, the first linked
+/// before or not, for all arguments, inputs and bounds.
 pub fn two_goes_link_as_one()
     ensures conflicts { ConflictsStay }
     ensures symbols { RegroupsSymbols }

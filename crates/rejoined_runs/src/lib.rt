@@ -1,12 +1,15 @@
-//! Linking in two goes: the module that is made of some parts, linked with others, against all parts linked at once.
+//! Linking in two goes: the module that is made of some parts, linked with others, against all parts
+//! linked at once.
 //!
-//! It stands on the symbols that `link_rules` carries over, on the laws of `linked_runs`, and on the runs of `run_rules`. It promises
-//! that a conflict is reported in two goes exactly where one is reported at once, of the same kind and name; that each symbol keeps its
-//! place, its definition and its meaning; and that the parts print the same and end the same way, linked in two goes or at once.
+//! It stands on the symbols that `link_rules` carries over, on the laws of `linked_runs`, and on the
+//! runs of `run_rules`. It promises that a conflict is reported in two goes exactly where one is
+//! reported at once, of the same kind and name; that each symbol keeps its place, its definition and
+//! its meaning; and that the parts print the same and end the same way, linked in two goes or at once.
 //! Definitions: `specs/Regrouped`, `Conflicts`, `Regroups`, `Runs`.
 //!
 //! ```
-//! -- of `@v = internal global i32 1`, `@v = internal global i32 2` and `@v = global i32 3`, the first two linked before
+//! -- of `@v = internal global i32 1`, `@v = internal global i32 2` and `@v = global i32 3`, the first
+//! -- two linked before
 //! regrouped a b -- `@v = internal global i32 1 @v.1 = internal global i32 2`, and `@v = global i32 3`
 //! symbol_after a (Local 1 (codes "v")) -- Local 0 (codes "v.1")
 //! part_after 2 2 -- 1: the third part is now the second
