@@ -18,3 +18,4 @@ pub mod PlanAfter
 pub mod Greatest
 pub mod DefinitionsAfter
 pub mod RoomsAfter
+pub mod HalvesAgree

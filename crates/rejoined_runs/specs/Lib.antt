@@ -2,3 +2,4 @@ pub mod Regrouped
 pub mod Conflicts
 pub mod Regroups
 pub mod Runs
+pub mod Halves

@@ -1,5 +1,6 @@
 //! That linking in two goes is linking at once.
 ghost use Rattle.rejoined_runs.specs.Conflicts.{ConflictsStay};
+ghost use Rattle.rejoined_runs.specs.Halves.{HalvesAgree};
 ghost use Rattle.rejoined_runs.specs.Regroups.{RegroupsSymbols};
 ghost use Rattle.rejoined_runs.specs.Runs.{TwoGoesLookAlike, TwoGoesRunAlike};
 
@@ -13,4 +14,10 @@ pub fn two_goes_link_as_one()
     ensures symbols { RegroupsSymbols }
     ensures alike { TwoGoesLookAlike }
     ensures runs { TwoGoesRunAlike }
+{}
+
+/// The two halves that a well-formed, valid module is cut into, what is selected and what is left,
+/// have no conflict: each entry of a half was one of the module's, and a definition stays in one half.
+pub fn split_modules_link_again()
+    ensures agree { HalvesAgree }
 {}

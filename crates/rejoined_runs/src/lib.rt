@@ -5,7 +5,8 @@
 //! runs of `run_rules`. It promises that a conflict is reported in two goes exactly where one is
 //! reported at once, of the same kind and name; that each symbol keeps its place, its definition and
 //! its meaning; and that the parts print the same and end the same way, linked in two goes or at once.
-//! Definitions: `specs/Regrouped`, `Conflicts`, `Regroups`, `Runs`.
+//! And it promises that the two halves of a module, what is extracted and what is left, can be linked.
+//! Definitions: `specs/Regrouped`, `Conflicts`, `Regroups`, `Runs`; of halves `Halves`.
 //!
 //! ```
 //! -- of `@v = internal global i32 1`, `@v = internal global i32 2` and `@v = global i32 3`, the first
@@ -18,4 +19,4 @@
 
 mod law;
 
-pub use law::two_goes_link_as_one;
+pub use law::{split_modules_link_again, two_goes_link_as_one};
