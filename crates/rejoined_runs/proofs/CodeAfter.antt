@@ -115,39 +115,39 @@ module _ (a b : List Module) (ready : Ready a) (both : Both a b)
       (all_follow _ KnownFirst (later a b) (λ e low h. absurd (too_low e.part low h))
       (later_all a b)))
 
-  -- what is told of each function in its new part is what was told of it
-  pub record ToldAlike {A : Type 0} (told was : Defined → A) : Type 0 where
+  -- a fact of each function in its new part is the fact of it in its old one
+  pub record AlikeOfEach {A : Type 0} (fact old_fact : Defined → A) : Type 0 where
     pub first : (m : Bytes) (d : Defined) → d.0 < length a → KnownFunction a d
-        → told (moved_function a m d) ≡ was d
-    pub behind : (d : Defined) → length a ≤ d.0 → told (suc (d.0 - length a), d.1) ≡ was d
+        → fact (moved_function a m d) ≡ old_fact d
+    pub behind : (d : Defined) → length a ≤ d.0 → fact (suc (d.0 - length a), d.1) ≡ old_fact d
 
-  by_entry : {A : Type 0} (told was : Defined → A) (other : A) → ToldAlike told was
+  by_entry : {A : Type 0} (fact old_fact : Defined → A) (other : A) → AlikeOfEach fact old_fact
       → (s : Symbol) (i : ℕ) (g : Global) → (i < length a → IsKnown a i g)
-      → option_map_or told
+      → option_map_or fact
       (defined_by (entry_after a s (record { part = i; global = g }))
       (entry_after a s (record { part = i; global = g })).global) other
-      ≡ option_map_or was (defined_by (record { part = i; global = g }) g) other
-  by_entry told was other same s i g known = go (nat_lt i (length a)) refl
+      ≡ option_map_or old_fact (defined_by (record { part = i; global = g }) g) other
+  by_entry fact old_fact other same s i g known = go (nat_lt i (length a)) refl
     where
       first_entry : (g : Global) → i < length a → IsKnown a i g
-          → option_map_or told
+          → option_map_or fact
           (defined_by (moved a s (record { part = i; global = g }))
           (moved a s (record { part = i; global = g })).global) other
-          ≡ option_map_or was (defined_by (record { part = i; global = g }) g) other
+          ≡ option_map_or old_fact (defined_by (record { part = i; global = g }) g) other
       first_entry (OfVariable v) h k = refl
       first_entry (OfFunction f) h k = same.first (new_name_of a s) (i, f) h k
       first_entry (OfAlias x) h k = refl
 
       later_entry : (g : Global) → length a ≤ i
-          → option_map_or told
+          → option_map_or fact
           (defined_by (record { part = suc (i - length a); global = g }) g) other
-          ≡ option_map_or was (defined_by (record { part = i; global = g }) g) other
+          ≡ option_map_or old_fact (defined_by (record { part = i; global = g }) g) other
       later_entry (OfVariable v) h = refl
       later_entry (OfFunction f) h = same.behind (i, f) h
       later_entry (OfAlias x) h = refl
 
       go : (c : Bool) → nat_lt i (length a) ≡ c
-          → option_map_or told
+          → option_map_or fact
           (defined_by
           (if c then moved a s (record { part = i; global = g }) else record {
             part =
@@ -160,33 +160,33 @@ module _ (a b : List Module) (ready : Ready a) (both : Both a b)
                 suc (i - length a);
             global = g;
           }).global) other
-          ≡ option_map_or was (defined_by (record { part = i; global = g }) g) other
+          ≡ option_map_or old_fact (defined_by (record { part = i; global = g }) g) other
       go true t = let low = below i (length a) t in first_entry g low (known low)
       go false t = later_entry g (not_below i (length a) t)
 
-  pub by_symbol : {A : Type 0} (told was : Defined → A) (other : A) → ToldAlike told was
+  pub by_symbol : {A : Type 0} (fact old_fact : Defined → A) (other : A) → AlikeOfEach fact old_fact
       → (s : Symbol) → IsSymbol (old a b) s
-      → option_map_or told (defined (new a b) (symbol_after a s)) other
-      ≡ option_map_or was (defined (old a b) s) other
-  by_symbol told was other same s here =
-      (λ k. option_map_or told
+      → option_map_or fact (defined (new a b) (symbol_after a s)) other
+      ≡ option_map_or old_fact (defined (old a b) s) other
+  by_symbol fact old_fact other same s here =
+      (λ k. option_map_or fact
       (option_and_then (λ (e : Entry). defined_by e e.global)
       (home (new a b) (both.regroups.behinds s here k))) other)
-      ∙ (λ k. option_map_or told
+      ∙ (λ k. option_map_or fact
       (option_and_then (λ (e : Entry). defined_by e e.global)
       (both.regroups.homes (behind (old a b) s)
       (behind_is (old a b) both.fit both.merges s here) k)) other)
       ∙ by_home (home (old a b) (behind (old a b) s)) refl
     where
       by_home : (o : Option Entry) → home (old a b) (behind (old a b) s) ≡ o
-          → option_map_or told
+          → option_map_or fact
           (option_and_then (λ (e : Entry). defined_by e e.global)
           (option_map (entry_after a (behind (old a b) s)) o)) other
-          ≡ option_map_or was
+          ≡ option_map_or old_fact
           (option_and_then (λ (e : Entry). defined_by e e.global) o) other
       by_home None h = refl
       by_home (Some e) h =
-          by_entry told was other same (behind (old a b) s) e.part e.global
+          by_entry fact old_fact other same (behind (old a b) s) e.part e.global
           (home_is (old a b) KnownFirst (behind (old a b) s) e known_first h).0.0
 
   pub same_linkage : (s : Symbol) (e : Entry)
@@ -204,7 +204,7 @@ module _ (a b : List Module) (ready : Ready a) (both : Both a b)
       go false = refl
 
   look_alike : (block position : ℕ)
-      → ToldAlike (λ d. look_in (scope_of (names_in (new a b) d.0) d.1) block position)
+      → AlikeOfEach (λ d. look_in (scope_of (names_in (new a b) d.0) d.1) block position)
       (λ d. look_in (scope_of (names_in (old a b) d.0) d.1) block position)
   look_alike block position = record {
     first = λ m d h known. look_moved a m d known (names_in (old a b) d.0) (names_in (new a b) 0)
@@ -243,7 +243,7 @@ module _ (a b : List Module) (ready : Ready a) (both : Both a b)
           (functions_are (old a b)) h)
 
   module _ (n : ℕ) where
-    code_alike : ToldAlike (code_of (new a b) n) (code_of (old a b) n)
+    code_alike : AlikeOfEach (code_of (new a b) n) (code_of (old a b) n)
     code_alike = record {
       first = λ m d h known k. Code n
           (signature_moved a m d known (names_in (old a b) d.0) (names_in (new a b) 0)

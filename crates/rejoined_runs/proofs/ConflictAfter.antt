@@ -156,8 +156,8 @@ module _ (a b : List Module) (k : ConflictKind) (m : Bytes) where
     strict ElementShape y = clash (new a b) ElementShape l y
     strict Constness y = clash (new a b) Constness l y
 
-    abbrev told : Entry → FoundConflict
-    told y = record { kind = k; name = m; one = 0; other = y.part }
+    abbrev report : Entry → FoundConflict
+    report y = record { kind = k; name = m; one = 0; other = y.part }
 
     -- an entry that it is in place of
     pub record InPlaceOf (x : Entry) : Type 0 where
@@ -213,9 +213,9 @@ module _ (a b : List Module) (k : ConflictKind) (m : Bytes) where
     own_clash ElementShape z = refl
     own_clash Constness z = refl
 
-    first_told : (x y : Entry) → x.part < length a → length a ≤ y.part
-        → found_old (x, y) ≡ told (moved_on y)
-    first_told x y h i =
+    first_report : (x y : Entry) → x.part < length a → length a ≤ y.part
+        → found_old (x, y) ≡ report (moved_on y)
+    first_report x y h i =
         λ t. record {
           kind = k;
           name = m;
@@ -224,8 +224,8 @@ module _ (a b : List Module) (k : ConflictKind) (m : Bytes) where
               part_behind y.part i t;
         }
 
-    own_told : (z : Entry) → found_new (l, z) ≡ told z
-    own_told z = λ t. record { kind = k; name = m; one = first_part t; other = z.part }
+    own_report : (z : Entry) → found_new (l, z) ≡ report z
+    own_report z = λ t. record { kind = k; name = m; one = first_part t; other = z.part }
 
     weak_any : (kind : ConflictKind) → is_strong l ≡ list_any is_strong some
         → list_any (λ (e : Entry). true) some ≡ true
@@ -240,16 +240,16 @@ module _ (a b : List Module) (k : ConflictKind) (m : Bytes) where
     weak_any ElementShape strong any = sym any
     weak_any Constness strong any = sym any
 
-    told_later : option_map told (first (filter (strict k) (map moved_on some_later)))
-        ≡ option_map (λ y. told (moved_on y))
+    report_later : option_map report (first (filter (strict k) (map moved_on some_later)))
+        ≡ option_map (λ y. report (moved_on y))
         (first (filter (λ y. strict k (moved_on y)) some_later))
-    told_later =
-        ap (λ es. option_map told (first es))
+    report_later =
+        ap (λ es. option_map report (first es))
         (filter_mapped moved_on (strict k) (λ y. strict k (moved_on y)) some_later
         (all_true_of _ (λ y. refl) some_later))
-        ∙ ap (option_map told)
+        ∙ ap (option_map report)
         (first_mapped moved_on (filter (λ y. strict k (moved_on y)) some_later))
-        ∙ composed told moved_on (first (filter (λ y. strict k (moved_on y)) some_later))
+        ∙ composed report moved_on (first (filter (λ y. strict k (moved_on y)) some_later))
 
     pairs_first : AllByRecursion InPlaceOf some → is_strong l ≡ list_any is_strong some
         → list_any (λ (e : Entry). true) some ≡ true
@@ -257,23 +257,23 @@ module _ (a b : List Module) (k : ConflictKind) (m : Bytes) where
         → option_map found_new (first (filter clash_new (pairs (l ∷ map moved_on some_later))))
         ≡ option_map found_old (first (filter clash_old (pairs (some ++ some_later))))
     pairs_first all strong any quiet =
-        first_pairs clash_new clash_new moved_on found_new found_new (weak k) (strict k) told
+        first_pairs clash_new clash_new moved_on found_new found_new (weak k) (strict k) report
         (l ∷ []) (map moved_on some_later) (
           record {
             tested = all_true_of _ (own_clash k) (map moved_on some_later);
             same =
-                all_true_of _ own_told (map moved_on some_later);
+                all_true_of _ own_report (map moved_on some_later);
           },
           tt,
         ) tt
         ∙ ap₂ option_or
-        ((λ i. if weak_any k strong any i then told_later i else None))
+        ((λ i. if weak_any k strong any i then report_later i else None))
         pairs_later
         ∙ sym (first_pairs clash_old clash_old moved_on found_old found_old (weak k)
-        (λ y. strict k (moved_on y)) (λ y. told (moved_on y)) some some_later
+        (λ y. strict k (moved_on y)) (λ y. report (moved_on y)) some some_later
         (all_follow InPlaceOf _ some (λ x is. record {
           tested = all_follow _ _ some_later (λ y h. first_clash k x y is h) all_later;
-          same = all_follow _ _ some_later (λ y h. first_told x y is.low h) all_later;
+          same = all_follow _ _ some_later (λ y h. first_report x y is.low h) all_later;
         }) all) quiet)
 
 clash_before : (a b : List Module) (kind : ConflictKind) (x y : Entry) → x.part < length a

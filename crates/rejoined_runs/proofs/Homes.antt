@@ -1,5 +1,5 @@
 -- Where a symbol is defined, once the first parts are one: by the better of its definition there
--- and those behind.
+-- and the later ones.
 use Rattle.std.proofs.Common.{◌≡◌, ℕ, suc, ◌-◌, ◌<◌, ◌≤◌, Bool, true, false, ◌&&◌, ◌||◌, ◌⊎◌, inl, inr, List, [], ◌∷◌, ◌++◌, map, length, Option, Some, None, refl, sym, ap, ap₂, ◌∙◌, subst, filter, option_map, option_to_list, nat_lt, nat_eq, bytes_eq, append-nil, arith}
 use Rattle.std.specs.Prelude.{if◌then◌else◌}
 use Rattle.std.specs.Option.{option_map_or}
@@ -85,7 +85,7 @@ module _ (a b : List Module) where
   abbrev pub new : List Module
   new = regrouped a b
 
-  -- the entries of the parts behind
+  -- the entries of the later parts
   abbrev pub later : List Entry
   later = entries_from (length a) b
 

@@ -109,7 +109,7 @@ module _ (a b : List Module) where
       → symbol_in (old a b) i name ≡ symbol_in a i name
   first_symbol i name h = ap (λ c. if c then Local i name else Shared name) (first_local i name h)
 
-  -- an entry behind is of no symbol of part 0
+  -- a later entry is of no symbol of part 0
   none_shifted : (name : Bytes)
       → has same_symbol (map symbol_of (later_shifted a b)) (Local 0 name) ≡ false
   none_shifted name = go (later a b)

@@ -160,7 +160,7 @@ module _ (a b : List Module) (ready : Ready a) (both : Both a b)
             (first low)
         go false k = names_later i (not_below i (length a) k) (names_used g) known
 
-    -- pieces of first parts behind each other
+    -- pieces of first parts, one after another
     abbrev piece_uses : ContentPiece → Bool
     piece_uses p = list_any (used_before p.part) (names_in_constant p.value)
 

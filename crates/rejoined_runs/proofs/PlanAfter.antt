@@ -26,7 +26,7 @@ use Rattle.run_rules.specs.Look.{defined_by, defined, pointer_to, names_in}
 use Rattle.run_rules.specs.Plan.{main_of, main_symbol, main_by, main_in, variable_of, Contents, contents_of, in_order, constructors_symbol, constructors, plan}
 use Rattle.run_rules.specs.Resolve.{signature_in}
 use Rattle.rejoined_runs.specs.Regrouped.{symbol_after, entry_after}
-use Rattle.rejoined_runs.proofs.CodeAfter.{ToldAlike, by_symbol, signature_moved}
+use Rattle.rejoined_runs.proofs.CodeAfter.{AlikeOfEach, by_symbol, signature_moved}
 use Rattle.rejoined_runs.proofs.ContentsAfter.{pieces_known, pieces_same, contents_same, constructors_moved}
 use Rattle.rejoined_runs.proofs.Homes.{Ready, old, new}
 use Rattle.rejoined_runs.proofs.MissingAfter.{first_missing_same}
@@ -38,7 +38,7 @@ module _ (a b : List Module) (ready : Ready a) (both : Both a b)
   -- MAIN
 
   main_alike : IsSymbol (old a b) main_symbol
-      → ToldAlike a b ready both rooms_kept (main_by (new a b)) (main_by (old a b))
+      → AlikeOfEach a b ready both rooms_kept (main_by (new a b)) (main_by (old a b))
   main_alike here = record {
     first = λ m d h known k. main_of
         (signature_moved a m d known (names_in (old a b) d.0) (names_in (new a b) 0)

@@ -1,5 +1,5 @@
 -- The first pair that passes a test, where the first elements of a list are replaced by one that
--- stands for all of them.
+-- can take the place of them all.
 use Rattle.std.proofs.Common.{◌≡◌, Bool, true, false, ◌&&◌, ◌||◌, List, [], ◌∷◌, ◌++◌, map, Option, Some, None, refl, sym, ap, ap₂, ◌∙◌, subst, filter, option_map}
 use Rattle.std.specs.Prelude.{flat_map, if◌then◌else◌}
 use Rattle.std.specs.Option.{option_or}
@@ -45,7 +45,7 @@ first_found move g new old (x ∷ xs) all =
 -- ---- pairs
 
 module _ {A F : Type 0} (before after : A × A → Bool) (move : A → A) (found again : A × A
-    → F) (weak strict : A → Bool) (told : A → F) where
+    → F) (weak strict : A → Bool) (report : A → F) where
   abbrev with_each : A → List A → List (A × A)
   with_each x ys = map {B = A × A} (λ y. (x, y)) ys
 
@@ -94,21 +94,21 @@ module _ {A F : Type 0} (before after : A × A → Bool) (move : A → A) (found
   -- of these first elements, those that can be in a pair are found alike with each later one
   pub record FirstElement (ys : List A) (x : A) : Type 0 where
     pub tested : AllByRecursion (λ y. before (x, y) ≡ (weak x && strict y)) ys
-    pub same : AllByRecursion (λ y. found (x, y) ≡ told y) ys
+    pub same : AllByRecursion (λ y. found (x, y) ≡ report y) ys
 
-  first_of_map : (x : A) (ys : List A) → AllByRecursion (λ y. found (x, y) ≡ told y) ys
-      → option_map found (first (with_each x ys)) ≡ option_map told (first ys)
+  first_of_map : (x : A) (ys : List A) → AllByRecursion (λ y. found (x, y) ≡ report y) ys
+      → option_map found (first (with_each x ys)) ≡ option_map report (first ys)
   first_of_map x [] all = refl
   first_of_map x (y ∷ ys) all = ap Some all.0
 
   with_one : (x : A) (ys : List A) → FirstElement ys x
       → option_map found (first (filter before (with_each x ys)))
-      ≡ (if weak x then option_map told (first (filter strict ys)) else None)
+      ≡ (if weak x then option_map report (first (filter strict ys)) else None)
   with_one x ys is = go (weak x) refl
     where
       go : (b : Bool) → weak x ≡ b
           → option_map found (first (filter before (with_each x ys)))
-          ≡ (if b then option_map told (first (filter strict ys)) else None)
+          ≡ (if b then option_map report (first (filter strict ys)) else None)
       go true h =
           ap (λ l. option_map found (first l))
           (filter_mapped (λ y. (x, y)) before strict ys
@@ -124,7 +124,7 @@ module _ {A F : Type 0} (before after : A × A → Bool) (move : A → A) (found
   pub first_pairs : (xs ys : List A) → AllByRecursion (FirstElement ys) xs
       → AllByRecursion (λ pair. before pair ≡ false) (pairs xs)
       → option_map found (first (filter before (pairs (xs ++ ys))))
-      ≡ option_or (if list_any weak xs then option_map told (first (filter strict ys)) else None)
+      ≡ option_or (if list_any weak xs then option_map report (first (filter strict ys)) else None)
       (option_map found (first (filter before (pairs ys))))
   first_pairs [] ys all none = refl
   first_pairs (x ∷ xs) ys all none =
@@ -141,7 +141,7 @@ module _ {A F : Type 0} (before after : A × A → Bool) (move : A → A) (found
       (first (filter before (pairs (xs ++ ys))))
       ∙ ap₂ option_or (with_one x ys all.0)
       (first_pairs xs ys all.1 (all_back _ (with_each x xs) (pairs xs) none))
-      ∙ joined (weak x) (list_any weak xs) (option_map told (first (filter strict ys)))
+      ∙ joined (weak x) (list_any weak xs) (option_map report (first (filter strict ys)))
     where
       joined : (b c : Bool) (o : Option F)
           → option_or (if b then o else None)

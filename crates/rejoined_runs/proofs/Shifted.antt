@@ -1,4 +1,4 @@
--- Parts behind other parts: their entries under other part numbers.
+-- Parts after other parts: their entries under other part numbers.
 use Rattle.std.proofs.Common.{◌≡◌, ℕ, suc, ◌+◌, ◌-◌, ◌<◌, ◌≤◌, List, [], ◌∷◌, ◌++◌, map, length, refl, sym, ap, ap₂, ◌∙◌, append_assoc, arith}
 use Rattle.std.specs.List.{AllByRecursion}
 use Rattle.std.proofs.lemmas.List.{map-append, get_or_append_left, get_or-append_right}
@@ -38,7 +38,7 @@ entries_within i (m ∷ ms) =
     wider (e ∷ es) all = let low = all.0.0 in let high =
         all.0.1 in ((omega arith, omega arith), wider es all.1)
 
--- the number that a part behind the first `count` has, where those are one
+-- the number that a part after the first `count` has, where those are one
 abbrev pub shifted : ℕ → ℕ → ℕ
 shifted count i = suc (i - count)
 

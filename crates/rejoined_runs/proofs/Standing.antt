@@ -37,7 +37,7 @@ use Rattle.rejoined_runs.proofs.Best.{best_empty, best_stays, best_rank}
 use Rattle.rejoined_runs.proofs.Homes.{Ready}
 use Rattle.rejoined_runs.proofs.Lists.{same_truth}
 
--- what stands at two places of a list, where each is related to each later one
+-- two elements of a list, where each is related to each later one
 related : (R : Entry → Entry → Type 0) → ((x : Entry) → R x x) → ((x y : Entry) → R x y → R y x)
     → (es : List Entry) → AllByRecursion (λ pair. R pair.0 pair.1) (pairs es)
     → (i j : ℕ) (d e : Entry) → slice_get es i ≡ Some d → slice_get es j ≡ Some e → R d e

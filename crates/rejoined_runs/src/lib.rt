@@ -4,7 +4,8 @@
 //! It stands on the symbols that `link_rules` carries over, on the laws of `linked_runs`, and on the
 //! runs of `run_rules`. It promises that a conflict is reported in two goes exactly where one is
 //! reported at once, of the same kind and name; that each symbol keeps its place, its definition and
-//! its meaning; and that the parts print the same and end the same way, linked in two goes or at once.
+//! its meaning; and that the parts print the same and end the same way, linked in two goes or at
+//! once.
 //! And it promises that the two halves of a module, what is extracted and what is left, can be linked.
 //! Definitions: `specs/Regrouped`, `Conflicts`, `Regroups`, `Runs`; of halves `Halves`.
 //!
