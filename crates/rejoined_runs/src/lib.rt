@@ -4,9 +4,9 @@
 //! It stands on the symbols that `link_rules` carries over, on the laws of `linked_runs`, on the
 //! extraction of `extract_rules`, and on the runs of `run_rules`. It promises that a conflict is
 //! reported in two goes exactly where one is reported at once, of the same kind and name; that each
-//! symbol keeps its place, its definition and its meaning; and that the parts print the same and end
-//! the same way, linked in two goes or at once. What is extracted of a module and what is left have
-//! no conflict.
+//! symbol keeps its place, its definition and its meaning; and that the parts print the same and
+//! end the same way, linked in two goes or at once. What is extracted of a module and what is left
+//! have no conflict.
 //! Definitions: `specs/Regrouped`, `Conflicts`, `Regroups`, `Runs`; of halves `Halves`.
 //!
 //! ```
