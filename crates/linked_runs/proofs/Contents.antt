@@ -67,7 +67,7 @@ module _ (parts : List Module) where
   elements_known i t (Cast opcode from value to) k = tt
   elements_known i t (Binary opcode flags left_type left right_type right) k = tt
 
-  entry_elements_known : (i : ℕ) (g : Global) → IsKnown parts i g → AllByRecursion KnownPiece (elements_in (record { part = i; global = g }))
+  pub entry_elements_known : (i : ℕ) (g : Global) → IsKnown parts i g → AllByRecursion KnownPiece (elements_in (record { part = i; global = g }))
   entry_elements_known i (OfVariable v) k = go v.initialiser k.1
     where
       go : (o : Option Constant) → InitialiserIn parts i v.ty o → AllByRecursion (KnownPiece) (option_map_or (elements_of i) o [])
@@ -76,7 +76,7 @@ module _ (parts : List Module) where
   entry_elements_known i (OfFunction f) k = tt
   entry_elements_known i (OfAlias a) k = tt
 
-  whole_known : (i : ℕ) (g : Global) → IsKnown parts i g → AllByRecursion KnownPiece (whole (record { part = i; global = g }))
+  pub whole_known : (i : ℕ) (g : Global) → IsKnown parts i g → AllByRecursion KnownPiece (whole (record { part = i; global = g }))
   whole_known i (OfVariable v) k = go v.initialiser k
     where
       go : (o : Option Constant) → KnownTree parts i v.ty × InitialiserIn parts i v.ty o → AllByRecursion (KnownPiece) (option_map_or {U = List ContentPiece} (λ c. record { part = i; ty = v.ty; value = c } ∷ []) o [])
@@ -105,7 +105,7 @@ module _ (parts : List Module) where
 
   -- PIECES OF THE RESULT
 
-  pieces_linked : (ps : List ContentPiece) → pieces_of_constants 0 (linked_pieces parts ps) ≡ map (moved_piece parts) ps
+  pub pieces_linked : (ps : List ContentPiece) → pieces_of_constants 0 (linked_pieces parts ps) ≡ map (moved_piece parts) ps
   pieces_linked [] = refl
   pieces_linked (p ∷ ps) = ap (λ l. moved_piece parts p ∷ l) (pieces_linked ps)
 

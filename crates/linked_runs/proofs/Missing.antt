@@ -37,15 +37,15 @@ use Rattle.linked_runs.proofs.SameNames.{meaning_path}
 
 -- LISTS
 
-or_false : (b : Bool) → (b || false) ≡ b
+pub or_false : (b : Bool) → (b || false) ≡ b
 or_false true = refl
 or_false false = refl
 
-any_either : {A : Type 0} (p : A → Bool) (b : Bool) (xs : List A) → list_any p (if b then xs else xs) ≡ list_any p xs
+pub any_either : {A : Type 0} (p : A → Bool) (b : Bool) (xs : List A) → list_any p (if b then xs else xs) ≡ list_any p xs
 any_either p true xs = refl
 any_either p false xs = refl
 
-flat_symbols : {A B : Type 0} (p : B → Bool) (q : B → Bool) (f g : A → List B) (new : A → A) (xs : List A) → AllByRecursion (λ x. list_any p (f (new x)) ≡ list_any q (g x)) xs → list_any p (flat_map f (map new xs)) ≡ list_any q (flat_map g xs)
+pub flat_symbols : {A B : Type 0} (p : B → Bool) (q : B → Bool) (f g : A → List B) (new : A → A) (xs : List A) → AllByRecursion (λ x. list_any p (f (new x)) ≡ list_any q (g x)) xs → list_any p (flat_map f (map new xs)) ≡ list_any q (flat_map g xs)
 flat_symbols p q f g new [] a = refl
 flat_symbols p q f g new (x ∷ xs) a =
     list_any-append p (f (new x)) (flat_map f (map new xs)) ∙ ap₂ (λ b c. b || c) a.0 (flat_symbols p q f g new xs a.1) ∙ sym (list_any-append q (g x) (flat_map g xs))
@@ -63,7 +63,7 @@ resolved_some parts t h = go (home parts t) h
     go None h = cc
     go (Some e) h = by_test e (is_appending (linkage_of e.global))
 
-defined_resolved : (parts : List Module) (t : Symbol) (e : Entry) → is_unresolved (bound_to parts t (Some e)) ≡ false
+pub defined_resolved : (parts : List Module) (t : Symbol) (e : Entry) → is_unresolved (bound_to parts t (Some e)) ≡ false
 defined_resolved parts t e = go (is_appending (linkage_of e.global))
   where
     go : (b : Bool) → is_unresolved (if b then Appended t else Definition e) ≡ false
@@ -79,7 +79,7 @@ module _ (parts : List Module) (fit : Fit parts) (merges : Merges parts) where
       by_home (Some e) h = defined_resolved (merged parts) (carry parts (behind parts s)) (moved parts (behind parts s) e) ∙ sym (defined_resolved parts (behind parts s) e)
 
   -- a part's own symbol means something
-  local_resolved : (i : ℕ) (n : Bytes) → IsSymbol parts (Local i n) → is_unresolved (meaning parts (Local i n)) ≡ false
+  pub local_resolved : (i : ℕ) (n : Bytes) → IsSymbol parts (Local i n) → is_unresolved (meaning parts (Local i n)) ≡ false
   local_resolved i n here = by_home (home parts (Local i n)) refl
     where
       there : has same_symbol (map symbol_of (entries parts)) (Local i n) ≡ true

@@ -37,7 +37,7 @@ module _ {K : Type 0} (h : Symbol → Option K) where
       go None r = r
       go (Some k) r = (a.0, r)
 
-rows_map : {K : Type 0} (f : Symbol → Symbol) (g h : Symbol → Option K) (ss : List Symbol) → AllByRecursion (λ s. g (f s) ≡ h s) ss
+pub rows_map : {K : Type 0} (f : Symbol → Symbol) (g h : Symbol → Option K) (ss : List Symbol) → AllByRecursion (λ s. g (f s) ≡ h s) ss
     → filter_map {Y = Symbol × K} (λ s. option_map {U = Symbol × K} (λ k. (s, k)) (g s)) (map f ss) ≡ map {B = Symbol × K} (λ (row : Symbol × K). (f row.0, row.1)) (filter_map (λ s. option_map {U = Symbol × K} (λ k. (s, k)) (h s)) ss)
 rows_map f g h [] a = refl
 rows_map {K} f g h (s ∷ ss) a =
@@ -60,11 +60,11 @@ module _ (f : Symbol → Symbol) where
   abbrev pub under : {K : Type 0} → Symbol × K → Symbol × K
   under row = (f row.0, row.1)
 
-  placed_map : (next : ℕ) (rows : List (Symbol × Room)) → placed_from next (map under rows) ≡ map under (placed_from next rows)
+  pub placed_map : (next : ℕ) (rows : List (Symbol × Room)) → placed_from next (map under rows) ≡ map under (placed_from next rows)
   placed_map next [] = refl
   placed_map next (row ∷ rows) = ap (λ l. (f row.0, next_multiple_of next row.1.alignment) ∷ l) (placed_map (next_multiple_of next row.1.alignment + row.1.size + 16) rows)
 
-  addressed_map : (n : ℕ) (ss : List Symbol) → addressed_from n (map f ss) ≡ map under (addressed_from n ss)
+  pub addressed_map : (n : ℕ) (ss : List Symbol) → addressed_from n (map f ss) ≡ map under (addressed_from n ss)
   addressed_map n [] = refl
   addressed_map n (s ∷ ss) = ap (λ l. (f s, function_address n) ∷ l) (addressed_map (suc n) ss)
 
@@ -83,7 +83,7 @@ module _ (parts : List Module) where
   pub rooms_are : AllByRecursion (λ (row : Symbol × Room). IsSymbol parts row.0) (rooms parts)
   rooms_are = rows_all (room parts) (IsSymbol parts) (variable_symbols parts) variables_are
 
-  places_are : AllByRecursion (λ (row : Symbol × ℕ). IsSymbol parts row.0) (place parts)
+  pub places_are : AllByRecursion (λ (row : Symbol × ℕ). IsSymbol parts row.0) (place parts)
   places_are = all_joined _ (placed_from 65536 (rooms parts)) (addressed_from 0 (function_symbols parts)) (placed_all _ 65536 (rooms parts) rooms_are) (addressed_all _ 0 (function_symbols parts) functions_are)
 
 module _ (parts : List Module) (fit : Fit parts) (merges : Merges parts) where

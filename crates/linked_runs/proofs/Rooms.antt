@@ -29,7 +29,7 @@ use Rattle.link_rules.proofs.Searches.{all_both}
 -- ONE OF A KIND
 
 -- nothing that passes
-none_pass : {A : Type 0} (p : A → Bool) (xs : List A) → filter p xs ≡ [] → AllByRecursion (λ x. p x ≡ true → ⊥) xs
+pub none_pass : {A : Type 0} (p : A → Bool) (xs : List A) → filter p xs ≡ [] → AllByRecursion (λ x. p x ≡ true → ⊥) xs
 none_pass p [] h = tt
 none_pass p (x ∷ xs) h = go (p x) refl h (none_pass p xs)
   where
@@ -61,7 +61,7 @@ known_element parts i void k = k
 known_element parts i (struct packed ts) k = k
 known_element parts i (named name) k = k
 
-align_element : (n : ℕ) (o : Option Shape) → option_map_or align (option_map (array_of n) o) 1 ≡ option_map_or align o 1
+pub align_element : (n : ℕ) (o : Option Shape) → option_map_or align (option_map (array_of n) o) 1 ≡ option_map_or align o 1
 align_element n None = refl
 align_element n (Some s) = refl
 

@@ -52,7 +52,7 @@ moved_function parts m d = (
 abbrev pub KnownFunction : List Module → Defined → Type 0
 KnownFunction parts d = IsKnown parts d.0 (OfFunction d.1)
 
-moved_blocks : (f : Block → Block) (o : Option (List Block)) → unwrap_or (option_map (map f) o) [] ≡ map f (unwrap_or o [])
+pub moved_blocks : (f : Block → Block) (o : Option (List Block)) → unwrap_or (option_map (map f) o) [] ≡ map f (unwrap_or o [])
 moved_blocks f None = refl
 moved_blocks f (Some bs) = refl
 

@@ -20,7 +20,7 @@ use Rattle.linked_runs.proofs.Known.{Fit}
 use Rattle.link_rules.specs.Merges.{Merges}
 use Rattle.linked_runs.proofs.Places.{behind_is, pointer_same, bounds_same}
 
-defined_leaf : (parts : List Module) (s t : Symbol) (e : Entry) (b : Bool) → leaf_of parts s (if b then Appended t else Definition e) ≡ Ptr (pointer_to parts s)
+pub defined_leaf : (parts : List Module) (s t : Symbol) (e : Entry) (b : Bool) → leaf_of parts s (if b then Appended t else Definition e) ≡ Ptr (pointer_to parts s)
 defined_leaf parts s t e true = refl
 defined_leaf parts s t e false = refl
 

@@ -26,11 +26,11 @@ use Rattle.linked_runs.proofs.Missing.{first_missing_same}
 use Rattle.linked_runs.proofs.Places.{under, rooms_are, rooms_same, pointer_same}
 use Rattle.linked_runs.proofs.SameCode.{signature_moved, by_symbol}
 
-and_then_or : {A B : Type 0} (f : A → Option B) (o : Option A) → option_and_then f o ≡ option_map_or f o None
+pub and_then_or : {A B : Type 0} (f : A → Option B) (o : Option A) → option_and_then f o ≡ option_map_or f o None
 and_then_or f None = refl
 and_then_or f (Some x) = refl
 
-constant_kept : (parts : List Module) (m : Bytes) (e : Entry) (es : List Entry) (g : Global) → is_constant (linked_definition parts m e es g) ≡ is_constant g
+pub constant_kept : (parts : List Module) (m : Bytes) (e : Entry) (es : List Entry) (g : Global) → is_constant (linked_definition parts m e es g) ≡ is_constant g
 constant_kept parts m e es (OfVariable v) = refl
 constant_kept parts m e es (OfFunction f) = refl
 constant_kept parts m e es (OfAlias a) = refl
