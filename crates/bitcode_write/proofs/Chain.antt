@@ -1,10 +1,6 @@
 -- Operands that are appended one behind the other.
 use Rattle.std.proofs.Common.{◌≡◌, ℕ, ◌+◌, ◌<◌, ◌≤◌, List, [], ◌∷◌, ◌++◌, length, drop, get_or, append_assoc, sym, ap, ◌∙◌}
 use Rattle.std.proofs.lemmas.List.{at_drop_more, at_drop_all, append-nil}
-use Rattle.record_write.proofs.OnOperands.Chain.{two, five}
-
-pub six : (o x y z w v u m n p q r s : List ℕ) → m ≡ o ++ x → n ≡ m ++ y → p ≡ n ++ z → q ≡ p ++ w → r ≡ q ++ v → s ≡ r ++ u → s ≡ o ++ (x ++ (y ++ (z ++ (w ++ (v ++ u)))))
-six o x y z w v u m n p q r s e f g h i j = two o x (y ++ (z ++ (w ++ (v ++ u)))) m s e (five m y z w v u n p q r s f g h i j)
 
 -- behind an empty list
 pub from_empty : (o x n : List ℕ) → o ≡ [] → n ≡ o ++ x → n ≡ x

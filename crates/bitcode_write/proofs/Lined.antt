@@ -1,5 +1,6 @@
 -- Records and blocks that are written one behind the other.
 use Rattle.std.proofs.Common.{◌≡◌, ℕ, ◌+◌, ◌-◌, ◌<◌, ◌≤◌, Bool, true, false, Ok, List, [], ◌∷◌, ◌++◌, length, drop, get_or, refl, sym, ap, ◌∙◌, subst, arith}
+use Rattle.std.proofs.Common.{Result, Err, OnOk}
 use Rattle.std.proofs.lemmas.List.{at_drop_more, at_drop_all, length-append, take_at}
 use Rattle.std.proofs.lemmas.Bool.{true≢false}
 use Rattle.bit_stream.specs.Writer.{Writer, Writes, enter, end_block, define, put_record, abbreviated, id_bits}
@@ -72,6 +73,21 @@ lines_then {a = a} {b = b} {c = c} xs ys h k = record {
 pub lines_as : {a b : Writer} (code other : ℕ) (ns others : List ℕ) → PutsLines a ((code, ns) ∷ []) b → code ≡ other → ns ≡ others → PutsLines a ((other, others) ∷ []) b
 lines_as {a = a} {b = b} code other ns others h e f = subst (λ (line : Line). PutsLines a (line ∷ []) b) (λ j. (e j, f j)) h
 
+-- the same of a call that may fail
+pub put_as : {E : Type 0} (r : Result (Unit {0}) E) (a b : Writer)
+    (code other : ℕ) (ns others : List ℕ)
+    → OnOk r (PutsLines a ((code, ns) ∷ []) b) → code ≡ other → ns ≡ others
+    → OnOk r (PutsLines a ((other, others) ∷ []) b)
+put_as (Ok u) a b code other ns others h e f = lines_as code other ns others h e f
+put_as (Err x) a b code other ns others h e f = tt
+
+-- records before those of a call that may fail
+pub then_put : {E : Type 0} (r : Result (Unit {0}) E) (a b c : Writer)
+    (xs ys : List Line) → PutsLines a xs b → OnOk r (PutsLines b ys c)
+    → OnOk r (PutsLines a (xs ++ ys) c)
+then_put (Ok u) a b c xs ys h k = lines_then xs ys h k
+then_put (Err x) a b c xs ys h k = tt
+
 -- whatever is written behind records
 pub lines_before : {a b c : Writer} (xs : List Line) (more : Written) → PutsLines a xs b → Puts b more c → Puts a (put xs more) c
 lines_before {a = a} {b = b} {c = c} xs more h k = record {
@@ -79,6 +95,7 @@ lines_before {a = a} {b = b} {c = c} xs more h k = record {
   ready = k.ready;
 }
 
+-- the same records
 pub lines_same : {a b : Writer} {xs ys : List Line} → xs ≡ ys → PutsLines a xs b → PutsLines a ys b
 lines_same {a = a} {b = b} e h = subst (λ (zs : List Line). PutsLines a zs b) e h
 

@@ -44,8 +44,7 @@ fn put_line(
 {
     put_instruction(&mut out.operands, numbering, function, instruction)?;
     let opcode = instruction_opcode(instruction);
-    out.put(line_code(opcode))?;
-    Ok(())
+    out.put(line_code(opcode))
 }
 
 /// Writes the records of instructions.
@@ -86,8 +85,7 @@ fn put_block(
     put_lines(out, numbering, function, block.instructions.as_slice())?;
     put_ending(&mut out.operands, numbering, &block.end)?;
     let opcode = ending_opcode(&block.end);
-    out.put(line_code(opcode))?;
-    Ok(())
+    out.put(line_code(opcode))
 }
 
 /// Writes the records of blocks.

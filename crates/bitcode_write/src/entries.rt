@@ -52,8 +52,7 @@ fn put_variable_parts(
     put_flag(operands, variable.constant)?;
     numbering.put_type(operands, variable.ty)?;
     put_alignment(operands, variable.alignment)?;
-    put_initialiser(operands, numbering, variable)?;
-    Ok(())
+    put_initialiser(operands, numbering, variable)
 }
 
 /// Writes the record of a variable.
@@ -70,8 +69,7 @@ pub(crate) fn put_variable(
     ensures none { OnOk result (out.new.operands.items ≡ []) }
 {
     put_variable_parts(&mut out.operands, numbering, variable)?;
-    out.put(VARIABLE)?;
-    Ok(())
+    out.put(VARIABLE)
 }
 
 /// Appends how many parameters there are, and their types.
@@ -105,8 +103,7 @@ fn put_function_parts(
     put_flag(operands, function.body.is_some())?;
     numbering.put_type(operands, function.result)?;
     put_flag(operands, function.variadic)?;
-    put_parameter_types(operands, numbering, function.parameters.as_slice())?;
-    Ok(())
+    put_parameter_types(operands, numbering, function.parameters.as_slice())
 }
 
 /// Writes the record of a function.
@@ -122,8 +119,7 @@ pub(crate) fn put_function(
     ensures none { OnOk result (out.new.operands.items ≡ []) }
 {
     put_function_parts(&mut out.operands, numbering, function)?;
-    out.put(FUNCTION)?;
-    Ok(())
+    out.put(FUNCTION)
 }
 
 /// Appends what an alias says of its target: 0 and a type, or 1 and a function type.
@@ -163,10 +159,7 @@ fn put_alias_parts(
     put_linkage(operands, alias.linkage)?;
     put_alias_type(operands, numbering, &alias.ty)?;
     match alias.target {
-        Some(target) => {
-            numbering.put_global(operands, target)?;
-            Ok(())
-        }
+        Some(target) => numbering.put_global(operands, target),
         None => Ok(()),
     }
 }
@@ -185,6 +178,5 @@ pub(crate) fn put_alias(
     ensures none { OnOk result (out.new.operands.items ≡ []) }
 {
     put_alias_parts(&mut out.operands, numbering, alias)?;
-    out.put(ALIAS)?;
-    Ok(())
+    out.put(ALIAS)
 }

@@ -34,8 +34,7 @@ fn put_text_line(
     match text {
         Some(text) => {
             put_text(&mut out.operands, numbering, text.bytes())?;
-            out.put(code)?;
-            Ok(())
+            out.put(code)
         }
         None => Ok(()),
     }
@@ -53,8 +52,7 @@ pub(crate) fn put_head(out: &mut RecordSink, numbering: &Numbering<'_>) -> Resul
     out.put(VERSION)?;
     put_text_line(out, numbering, SOURCE, arena.source())?;
     put_text_line(out, numbering, LAYOUT, arena.data_layout())?;
-    put_text_line(out, numbering, TRIPLE, arena.triple())?;
-    Ok(())
+    put_text_line(out, numbering, TRIPLE, arena.triple())
 }
 
 /// Writes the records of the variables.
@@ -118,6 +116,5 @@ pub(crate) fn put_globals(out: &mut RecordSink, numbering: &Numbering<'_>) -> Re
 {
     put_variables(out, numbering)?;
     put_functions(out, numbering)?;
-    put_aliases(out, numbering)?;
-    Ok(())
+    put_aliases(out, numbering)
 }

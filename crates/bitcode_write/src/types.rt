@@ -59,8 +59,7 @@ fn put_array(
     ensures { OnOk result (operands.new.items ≡ operands.old.items ++ count ∷ (ty (indices numbering.now)).spell (tree numbering.now.table element)) }
 {
     put_number(operands, count)?;
-    numbering.put_type(operands, element)?;
-    Ok(())
+    numbering.put_type(operands, element)
 }
 
 /// Appends whether a struct without a name is packed, and the indices of its fields' types.
@@ -74,8 +73,7 @@ fn put_plain_struct(
     ensures { OnOk result (operands.new.items ≡ operands.old.items ++ bool_code packed ∷ flat_map (ty (indices numbering.now)).spell (map (tree numbering.now.table) fields.now)) }
 {
     put_flag(operands, packed)?;
-    put_indices(operands, numbering, fields)?;
-    Ok(())
+    put_indices(operands, numbering, fields)
 }
 
 /// Appends what a type is made of.
@@ -120,8 +118,7 @@ fn put_type(out: &mut RecordSink, numbering: &Numbering<'_>, id: TypeId) -> Resu
     let ty = types.get(id);
     put_parts(&mut out.operands, numbering, ty)?;
     let kind = kind_of(ty);
-    out.put(kind.code())?;
-    Ok(())
+    out.put(kind.code())
 }
 
 /// Writes the records of the types that the module mentions.
@@ -149,8 +146,7 @@ fn put_fields(
     ensures { OnOk result (operands.new.items ≡ operands.old.items ++ code ∷ (counted (ty (indices numbering.now))).spell (map (tree numbering.now.table) fields.now)) }
 {
     put_number(operands, code)?;
-    numbering.put_types(operands, fields)?;
-    Ok(())
+    numbering.put_types(operands, fields)
 }
 
 /// Appends what a struct with a body is, 0 plain, 1 packed or 2 opaque, and its fields behind their count.
@@ -202,8 +198,7 @@ fn put_struct(
     put_body(&mut out.operands, numbering, types.struct_body(id))?;
     let name = types.struct_name(id).text().bytes();
     put_text(&mut out.operands, numbering, name)?;
-    out.put(DEFINE)?;
-    Ok(())
+    out.put(DEFINE)
 }
 
 /// Writes the records of the types, and then those of the structs.

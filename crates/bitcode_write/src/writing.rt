@@ -1,8 +1,10 @@
 //! A whole module.
 ghost use Rattle.std.specs.Prelude.{◌≡◌, ◌<◌, ℕ, [], false, OnOk, IfOk, slice_index};
 ghost use Rattle.module_arena.specs.View.{module_of};
+ghost use Rattle.module_arena.specs.WellFormed.{IsWellFormed};
 ghost use Rattle.bit_tree.specs.Written.{no_more, written};
 ghost use Rattle.record_table.specs.Spelling.{put_block, put_module, spelling, texts_in};
+ghost use Rattle.record_table.specs.Spelling.{written_module};
 ghost use Rattle.bitcode_write.specs.Put.{IsOutside};
 ghost use Rattle.bitcode_write.specs.Entries.{AreEntries};
 
@@ -37,11 +39,44 @@ fn put_module_block(out: &mut RecordSink, numbering: &Numbering<'_>) -> Result<(
     Ok(())
 }
 
+/// Writes the blocks of a stream: the producer's, the string table and the module's.
+fn put_stream(
+    out: &mut RecordSink,
+    alloc: Global,
+    numbering: &Numbering<'_>,
+) -> Result<(), AllocError>
+    requires outside { IsOutside out.old.writer }
+    requires empty { out.old.operands.items ≡ [] }
+    requires well_formed { IsWellFormed (module_of numbering.now) }
+    requires entries { AreEntries numbering.now }
+    ensures put { OnOk result
+        (out.new.writer ≡ written out.old.writer (written_module (module_of numbering.now))) }
+    ensures unspent { OnOk result (out.new.writer.spent ≡ false) }
+    ensures outside { OnOk result (out.new.writer.around ≡ []) }
+{
+    put_byte_block(out, alloc, PRODUCER_BLOCK, &PRODUCER)?;
+    put_byte_block(out, alloc, TABLE_BLOCK, numbering.table())?;
+    put_module_block(out, numbering)
+}
+
 /// What holds of all bytes: each is below 256.
 fn bytes_fit(bytes: &[u8])
     ensures { (place : ℕ) → slice_index bytes.now place < 256 }
 {
     let _count = bytes.len();
+}
+
+/// The bitcode of a module by its numbering.
+fn write_numbered(alloc: Global, numbering: &Numbering<'_>) -> Result<Text, AllocError>
+    requires well_formed { IsWellFormed (module_of numbering.now) }
+    requires entries { AreEntries numbering.now }
+    ensures { IfOk result (λ text. text ≡ spelling (module_of numbering.now)) }
+{
+    let mut out = RecordSink::new(alloc)?;
+    put_stream(&mut out, alloc, numbering)?;
+    let text = out.finish();
+    bytes_fit(text.bytes());
+    Ok(text)
 }
 
 /// The bitcode of a module: the producer's block, the string table and the module, in version 2 of the record table. It is
@@ -53,12 +88,5 @@ pub fn write(alloc: Global, checked: &Checked) -> Result<Text, AllocError>
     // What holds of the entries of each arena.
     let _count = arena.variable_count();
     let numbering = Numbering::new(alloc, arena)?;
-    let mut out = RecordSink::new(alloc)?;
-    put_byte_block(&mut out, alloc, PRODUCER_BLOCK, &PRODUCER)?;
-    let table = numbering.table();
-    put_byte_block(&mut out, alloc, TABLE_BLOCK, table)?;
-    put_module_block(&mut out, &numbering)?;
-    let text = out.finish();
-    bytes_fit(text.bytes());
-    Ok(text)
+    write_numbered(alloc, &numbering)
 }

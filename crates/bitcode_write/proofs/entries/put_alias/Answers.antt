@@ -1,7 +1,9 @@
 use Rattle.std.proofs.Common.{refl}
 use Rattle.bitcode_write.proofs.Chain.{from_empty}
-use Rattle.bitcode_write.proofs.Lined.{lines_as}
+use Rattle.bitcode_write.proofs.Lined.{put_as}
 use Rattle.bitcode_write.proofs.entries.put_alias.Goals as goal
 
 pub returns-clause-put : goal.returns-clause-put
-returns-clause-put c = lines_as _ 7 _ _ c.in_ok-put.ensures.put refl (from_empty _ _ _ c.requires.empty c.in_ok-put_alias_parts.ensures)
+returns-clause-put c =
+    put_as _ _ _ _ 7 _ _ c.put.ensures.put refl
+    (from_empty _ _ _ c.requires.empty c.in_ok-put_alias_parts.ensures)

@@ -11,7 +11,7 @@ use Rattle.record_table.specs.Layout.{place}
 use Rattle.std.specs.Prelude.{bytes_eq, cond, ◌||◌}
 use Rattle.module_arena.specs.Known.{HasGlobal}
 use Rattle.module_arena.specs.declared.entry.GlobalId.{GlobalId}
-use Rattle.record_write.proofs.OnOperands.Chain.{four}
+use Rattle.record_write.proofs.OnOperands.Chain.{last4, reworded}
 use Rattle.bitcode_write.proofs.entries.put_alias_parts.Goals as goal
 
 by_first : (here : Bool) (x y : ℕ) → (here ≡ false → x ≡ y) → cond here 0 (suc x) ≡ cond here 0 (suc y)
@@ -25,8 +25,8 @@ in_front [] others name h = absurd (false≢true h)
 in_front (n ∷ ns) others name h =
     by_first (bytes_eq n name) _ _ (λ e. in_front ns others name (subst (λ (b : Bool). (b || list_any (λ (x : List ℕ). bytes_eq x name) ns) ≡ true) e h))
 
-pub returns-in_ok-put_global-in-Some : goal.returns-in_ok-put_global-in-Some
-returns-in_ok-put_global-in-Some c =
+pub returns-in-Some : goal.returns-in-Some
+returns-in-Some c =
     let a = c.args.numbering.now in
     let o = c.args.operands.now.items in
     let x = c.args.alias.now in
@@ -35,8 +35,10 @@ returns-in_ok-put_global-in-Some c =
     let k = indices a in
     let front : place bytes_eq k.globals (name_at a c.in-Some.target) ≡ place bytes_eq k.targets (alias_of a x).target =
     ap (place bytes_eq k.globals) (sym target_is) ∙ in_front k.targets _ (alias_of a x).target c.requires.fits.among in
-    four o _ _ _ _ _ _ _ _ (c.in_ok-put_text.ensures ∙ ap (λ (n : List ℕ). o ++ (texts a).middle.spell n) named)
-    c.in_ok-put_linkage.ensures c.in_ok-put_alias_type.ensures (c.in_ok-put_global-in-Some.ensures ∙ ap (λ (n : ℕ). c.put_alias_type.new.operands.items ++ n ∷ []) front)
+    last4 _ o _ _ _ (place bytes_eq k.targets (alias_of a x).target ∷ []) _ _ _ _
+    (c.in_ok-put_text.ensures ∙ ap (λ (n : List ℕ). o ++ (texts a).middle.spell n) named)
+    c.in_ok-put_linkage.ensures c.in_ok-put_alias_type.ensures
+    (reworded _ _ _ _ _ c.put_global.ensures (ap (λ (n : ℕ). n ∷ []) front))
 
 pub returns-in-None : goal.returns-in-None
 returns-in-None c = absurd (false≢true (ap (λ (t : Option GlobalId). is_some t) (sym c.in-None.is) ∙ c.requires.fits.some))

@@ -1,5 +1,5 @@
 use Rattle.std.proofs.Common.{Bool, List, [], ap, map, refl, sym, ℕ, ◌++◌, ◌∙◌, ◌∷◌, ◌≡◌}
-use Rattle.bitcode_write.proofs.Chain.{six}
+use Rattle.record_write.proofs.OnOperands.Chain.{last6, reworded}
 use Rattle.module_arena.specs.View.{parameter_view}
 use Rattle.record_write.specs.Operands.Numbered.{indices, texts}
 use Rattle.record_table.specs.Fields.{bool_code, ty}
@@ -21,9 +21,13 @@ returns c =
     let f = c.args.function.now in
     let named = c.bytes.ensures ∙ c.text.ensures.bytes in
     let parameters = ap (λ (ps : List Parameter). map (λ (p : Parameter). tree a.table p.ty) ps) c.as_slice.ensures ∙ sym (types_viewed a.table f.parameters) in
-    six o _ _ _ _ _ _ _ _ _ _ _ _ (c.in_ok-put_text.ensures ∙ ap (λ (n : List ℕ). o ++ (texts a).middle.spell n) named)
+    let viewed = map (parameter_view (trees a.table)) f.parameters in
+    let types = (counted (ty (indices a))).spell (map (λ (p : m.Parameter). p.ty) viewed) in
+    last6 _ o _ _ _ _ _ types _ _ _ _ _ _
+    (c.in_ok-put_text.ensures ∙ ap (λ (n : List ℕ). o ++ (texts a).middle.spell n) named)
     c.in_ok-put_linkage.ensures (c.in_ok-put_flag.ensures ∙ ap (λ (d : Bool). c.put_linkage.new.operands.items ++ bool_code d ∷ []) c.is_some.ensures) c.in_ok-put_type.ensures c.in_ok-put_flag-2.ensures
-    (c.in_ok-put_parameter_types.ensures ∙ ap (λ (ts : List Tree). c.put_flag-2.new.operands.items ++ (counted (ty (indices a))).spell ts) parameters)
+    (reworded _ _ _ _ _ c.put_parameter_types.ensures
+    (ap (λ (ts : List Tree). (counted (ty (indices a))).spell ts) parameters))
 
 pub put_parameter_types-requires : goal.put_parameter_types-requires
 put_parameter_types-requires c = rw c.as_slice.ensures c.requires.parameters_known

@@ -1,8 +1,9 @@
-use Rattle.std.proofs.Common.{All, List, Some, [], ap, length, refl, slice_get, subst, sym, ℕ, ◌++◌, ◌<◌, ◌∙◌, ◌∷◌, ◌≡◌}
+use Rattle.std.proofs.Common.{All, List, OnOk, Some, [], ap, length, refl, slice_get, subst, sym}
+use Rattle.std.proofs.Common.{ℕ, ◌++◌, ◌<◌, ◌∙◌, ◌∷◌, ◌≡◌}
 use Rattle.std.proofs.lemmas.Option.{get_or_from_slice_get, slice_get_within}
 use Rattle.std.specs.Option.{option_copied}
 use Rattle.bitcode_write.proofs.Chain.{from_empty}
-use Rattle.bitcode_write.proofs.Lined.{lines_as}
+use Rattle.bitcode_write.proofs.Lined.{put_as}
 use Rattle.bitcode_write.proofs.TypeLines.{struct_at}
 use Rattle.bitcode_write.specs.Entries.{body_operands, define_in}
 use Rattle.bitcode_write.specs.Put.{PutsLines}
@@ -42,6 +43,8 @@ returns-clause-put c =
     let named = subst (λ (u : Types). slice_get (names u) c.args.id ≡ Some name) same c.struct_name.ensures in
     let bodied = subst (λ (u : Types). slice_get (bodies u) c.args.id ≡ Some body) same c.struct_body.ensures in
     let text = c.bytes-name.ensures ∙ c.text.ensures.bytes in
-    subst (λ (s : List ℕ × TreeBody). PutsLines w (define_in a s ∷ []) c.put.new.self.writer) (sym (struct_at t c.args.id name body named bodied))
-    (lines_as _ 7 _ _ c.in_ok-put.ensures.put refl
+    let put = λ (s : List ℕ × TreeBody). PutsLines w (define_in a s ∷ []) c.put.new.self.writer in
+    subst (λ (s : List ℕ × TreeBody). OnOk c.put.result (put s))
+    (sym (struct_at t c.args.id name body named bodied))
+    (put_as _ _ _ _ 7 _ _ c.put.ensures.put refl
     (from_empty _ _ _ c.requires.empty (two _ (body_operands a body) _ _ _ c.in_ok-put_body.ensures (c.in_ok-put_text.ensures ∙ ap (λ (n : List ℕ). c.put_body.new.operands.items ++ (texts a).last.spell n) text))))

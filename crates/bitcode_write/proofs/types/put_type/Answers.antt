@@ -1,6 +1,6 @@
 use Rattle.std.proofs.Common.{List, Some, ap, length, map, slice_get, subst, sym, ℕ, ◌<◌, ◌∙◌, ◌≡◌}
 use Rattle.bitcode_write.proofs.Chain.{from_empty}
-use Rattle.bitcode_write.proofs.Lined.{lines_as}
+use Rattle.bitcode_write.proofs.Lined.{put_as}
 use Rattle.bitcode_write.proofs.TypeLines.{known_here, same_kind, tree_here}
 use Rattle.bitcode_write.specs.Entries.{type_in}
 use Rattle.module_arena.specs.Lists.{Lists}
@@ -33,6 +33,6 @@ returns-clause-put c =
     let good = subst IsGood same c.type_count-count.ensures.good in
     let at = subst (λ (u : Types). slice_get u.types c.args.id ≡ Some x) same c.get-ty.ensures in
     let here = sym (tree_here t good c.args.id x at) in
-    lines_as _ _ _ _ c.in_ok-put.ensures.put
+    put_as _ _ _ _ _ _ _ c.put.ensures.put
     (c.code.ensures ∙ ap kind_code c.kind_of-kind.ensures ∙ ap kind_code (same_kind (mentioned (module_of a)) (map (λ (s : List ℕ × TreeBody). s.0) (module_of a).structs) (names t) (trees t) x) ∙ ap (λ (y : Tree). kind_code (kind_of (type_in a y))) here)
     (from_empty _ _ _ c.requires.empty c.in_ok-put_parts.ensures ∙ ap (λ (y : Tree). (type_line (type_in a y)).1) here)
